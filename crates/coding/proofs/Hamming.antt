@@ -1,0 +1,107 @@
+-- What the rule of Hamming bytes gives: it inverts the sixteen sent bytes, mends one wrong bit, refuses two, and of the 256 bytes 16 are exact,
+-- 128 corrected and 112 refused.
+use mathlib.Core.Path.{_≡_, refl}
+use mathlib.Core.Logic.{_⊎_, inl, inr}
+use mathlib.Core.Bool.{Bool, true, false, cond}
+use mathlib.Core.Option.{Option, none, some}
+use Prim.Native.Nat.{ℕ, zero, suc, _≤_, _<_}
+use native.Mathlib.Omega.{arith}
+use lib.Dec.{T}
+use Rattle.laws.specs.Below.{allBelow, countBelow}
+use Rattle.laws.proofs.Below.{at}
+use Rattle.laws.proofs.Found.{is, is-it, isNone, is-none}
+use Rattle.coding.specs.Bits.{bit, weight, distance}
+use Rattle.coding.specs.Hamming.{sentMessage, testsOf, exact, corrected, mended, judged, messageBits, message}
+
+-- ---- a message is below 16
+
+abbrev pub Small : Option ℕ → Type 0
+Small none = Unit {0}
+Small (some m) = m < 16
+
+cond-small : (t : Bool) (x y : Option ℕ) → Small x → Small y → Small (cond t x y)
+cond-small true x y p q = p
+cond-small false x y p q = q
+
+bits-small : (byte : ℕ) → messageBits byte < 16
+unfolding messageBits bit weight
+bits-small byte = omega arith
+
+pub small : (byte : ℕ) → Small (message byte)
+unfolding message judged
+small byte =
+    cond-small (exact (testsOf byte)) _ _ (bits-small byte)
+    (cond-small (corrected (testsOf byte)) _ none (bits-small (mended (testsOf byte) byte)) tt)
+
+-- ---- what is sent and what is received: one test over all messages and bytes
+
+-- what a byte so many bits off the byte of m must be read as; past two bits nothing is said
+abbrev right : ℕ → Option ℕ → ℕ → Bool
+right m got zero = is m got
+right m got (suc zero) = is m got
+right m got (suc (suc zero)) = isNone got
+right m got (suc (suc (suc far))) = true
+
+abbrev rightAt : ℕ → ℕ → Option ℕ → Bool
+rightAt byte m got = right m got (distance byte (sentMessage m))
+
+all-right : T (allBelow 256 (λ byte. allBelow 16 (λ m. rightAt byte m (message byte))))
+unfolding allBelow distance sentMessage message
+all-right = tt
+
+-- at most one bit off: m
+one-off : (m : ℕ) (got : Option ℕ) (far : ℕ) → T (right m got far) → far ≤ 1 → got ≡ some m
+one-off m got zero t h = is-it m got t
+one-off m got (suc zero) t h = is-it m got t
+one-off m got (suc (suc far)) t h = absurd (omega arith)
+
+-- two bits off: refused
+two-off : (m : ℕ) (got : Option ℕ) (far : ℕ) → T (right m got far) → far ≡ 2 → got ≡ none
+two-off m got zero t h = absurd (omega arith)
+two-off m got (suc zero) t h = absurd (omega arith)
+two-off m got (suc (suc zero)) t h = is-none got t
+two-off m got (suc (suc (suc far))) t h = absurd (omega arith)
+
+-- at most two bits off: m or refused, and never another message
+some-off : (m : ℕ) (got : Option ℕ) (far : ℕ) → T (right m got far) → far ≤ 2 → (got ≡ some m) ⊎ (got ≡ none)
+some-off m got zero t h = inl (is-it m got t)
+some-off m got (suc zero) t h = inl (is-it m got t)
+some-off m got (suc (suc zero)) t h = inr (is-none got t)
+some-off m got (suc (suc (suc far))) t h = absurd (omega arith)
+
+module _ (m byte : ℕ) (m-is : m < 16) (byte-is : byte < 256) where
+  tried : T (rightAt byte m (message byte))
+  tried =
+      at 16 (λ n. rightAt byte n (message byte))
+      (at 256 (λ b. allBelow 16 (λ n. rightAt b n (message b))) all-right byte byte-is)
+      m m-is
+
+  pub mends : distance byte (sentMessage m) ≤ 1 → message byte ≡ some m
+  mends = one-off m (message byte) (distance byte (sentMessage m)) tried
+
+  pub detects : distance byte (sentMessage m) ≡ 2 → message byte ≡ none
+  detects = two-off m (message byte) (distance byte (sentMessage m)) tried
+
+  pub never-another : distance byte (sentMessage m) ≤ 2 → (message byte ≡ some m) ⊎ (message byte ≡ none)
+  never-another = some-off m (message byte) (distance byte (sentMessage m)) tried
+
+inverts-each : T (allBelow 16 (λ m. is m (message (sentMessage m))))
+unfolding allBelow sentMessage message
+inverts-each = tt
+
+pub inverts : (m : ℕ) → m < 16 → message (sentMessage m) ≡ some m
+inverts m h = is-it m (message (sentMessage m)) (at 16 (λ n. is n (message (sentMessage n))) inverts-each m h)
+
+-- ---- of 256 bytes
+
+pub exact-bytes : countBelow 256 (λ byte. exact (testsOf byte)) ≡ 16
+unfolding countBelow exact testsOf
+exact-bytes = refl
+
+pub corrected-bytes : countBelow 256 (λ byte. corrected (testsOf byte)) ≡ 128
+unfolding countBelow corrected testsOf
+corrected-bytes = refl
+
+pub refused-bytes : countBelow 256 (λ byte. isNone (message byte)) ≡ 112
+unfolding countBelow message
+refused-bytes = refl

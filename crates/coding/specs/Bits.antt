@@ -1,0 +1,44 @@
+-- Document 01, "From bits to packets": the bits of a byte, turning it end for end, how many bits differ, and the framing test.
+use mathlib.Core.Bool.{Bool}
+use Prim.Native.Nat.{ℕ, zero, suc, _+_, _-_, _*_, _/_, _%_, _^_}
+use lib.Dec.{eqb, leb}
+use lib.Bits.{bitXor}
+use lib.Count.{ones}
+
+-- b1 has weight 1 and b8 weight 128
+unfoldable pub weight : ℕ → ℕ
+weight n = 2 ^ (n - 1)
+
+-- the bit bN of a byte
+unfoldable pub bit : ℕ → ℕ → ℕ
+unfolding weight
+bit byte n = byte / weight n % 2
+
+-- the number whose bits b1 to bN are given
+unfoldable pub fromBits : ℕ → (ℕ → ℕ) → ℕ
+unfolding weight
+fromBits zero bits = 0
+fromBits (suc n) bits = bits (suc n) * weight (suc n) + fromBits n bits
+
+-- a byte turned end for end: b1 is what b8 was, and so on
+unfoldable pub turnedByte : ℕ → ℕ
+unfolding fromBits bit
+turnedByte byte = fromBits 8 (λ n. bit byte (9 - n))
+
+-- an odd count
+unfoldable pub odd : ℕ → Bool
+odd n = eqb (n % 2) 1
+
+-- in how many bits two bytes differ
+unfoldable pub distance : ℕ → ℕ → ℕ
+unfolding ones
+distance a b = ones (bitXor a b)
+
+-- 11100100, the first bit sent the most significant
+abbrev pub framingCode : ℕ
+framingCode = 0xE4
+
+-- the framing code is accepted with at most one wrong bit
+unfoldable pub framingPasses : ℕ → Bool
+unfolding distance
+framingPasses byte = leb (distance byte framingCode) 1

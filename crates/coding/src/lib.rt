@@ -1,0 +1,85 @@
+// The coding layer: turning a byte, the framing test, Hamming bytes and character bytes, each for all of the 256 values.
+// Bytes are those of document 01 after turning, except in `turned` itself and in `framing_passes`, which takes a framing code as it stands.
+mod table;
+
+ghost use mathlib.Core.Path.{_≡_};
+ghost use Rattle.laws.specs.Paper.{oneOrNone};
+ghost use Rattle.coding.specs.Bits.{turnedByte, framingPasses};
+ghost use Rattle.coding.specs.Characters.{character, characterPaper};
+ghost use Rattle.coding.specs.Hamming.{message, messagePaper, testsOf};
+use table::DECODED;
+use table::REFUSED;
+
+// What a Hamming byte holds: a message of 0 to 15, or more wrong bits than one.
+pub enum Message {
+    Good(u8),
+    Refused,
+}
+
+// What a character byte holds: a code of 00 to 7F, or a wrong parity.
+pub enum Character {
+    Good(u8),
+    Even,
+}
+
+// The four parity tests of a Hamming byte, each true where it holds.
+pub struct Tests {
+    pub a: bool,
+    pub b: bool,
+    pub c: bool,
+    pub d: bool,
+}
+
+// The framing code 11100100, the first bit sent the most significant.
+pub const FRAMING_CODE: u8 = 0xE4;
+
+// The byte end for end. Halves, pairs and bits change places, which a compiler does to many bytes at once; a table would be read a byte at a time.
+pub fn turned(byte: u8) -> u8
+    ensures { λ r. ⌜ r ≡ turnedByte byte ⌝ }
+{
+    let halves = byte >> 4 | byte << 4;
+    let pairs = (halves & 0x33) << 2 | halves >> 2 & 0x33;
+    (pairs & 0x55) << 1 | pairs >> 1 & 0x55
+}
+
+// Whether a framing code as it stands has at most one wrong bit.
+pub fn framing_passes(byte: u8) -> bool
+    ensures { λ r. ⌜ r ≡ framingPasses byte ⌝ }
+{
+    u8::count_ones(byte ^ FRAMING_CODE) <= 1
+}
+
+// The parity tests, each over the bits of its mask.
+pub fn tests_of(byte: u8) -> Tests
+    ensures { λ r. ⌜ r ≡ testsOf byte ⌝ }
+{
+    Tests {
+        a: u8::count_ones(byte & 0xA3) % 2 == 1,
+        b: u8::count_ones(byte & 0x8E) % 2 == 1,
+        c: u8::count_ones(byte & 0x3A) % 2 == 1,
+        d: u8::count_ones(byte & 0xFF) % 2 == 1,
+    }
+}
+
+// The message of a Hamming byte, with one wrong bit mended.
+pub fn message_of(byte: u8) -> Message
+    ensures { λ r. ⌜ messagePaper r ≡ oneOrNone (message byte) ⌝ }
+{
+    let entry = DECODED[byte as usize];
+    if entry == REFUSED {
+        Message::Refused
+    } else {
+        Message::Good(entry)
+    }
+}
+
+// The character of a byte of odd parity.
+pub fn character_of(byte: u8) -> Character
+    ensures { λ r. ⌜ characterPaper r ≡ oneOrNone (character byte) ⌝ }
+{
+    if u8::count_ones(byte) % 2 == 1 {
+        Character::Good(byte % 128)
+    } else {
+        Character::Even
+    }
+}

@@ -1,0 +1,18 @@
+-- A function that can be read back tells its arguments apart: n lines for an answer of n cases, and not n times n.
+use mathlib.Core.Path.{_≡_, _∙_, sym, ap}
+use mathlib.Core.List.{List}
+use mathlib.Core.Option.{Option, none, some}
+use Prim.Native.Nat.{ℕ}
+use lib.ListN.{getD}
+use Rattle.laws.specs.Paper.{Paper}
+
+pub told-apart : {A B : Type 0} (f : A → B) (back : B → A) → ((a : A) → back (f a) ≡ a) → (a b : A) → f a ≡ f b → a ≡ b
+told-apart f back reads a b e = sym (reads a) ∙ (ap back e ∙ reads b)
+
+-- an answer that is one value, or one without a number, read back from the paper's number and values
+abbrev oneBack : {A : Type 0} → (ℕ → A) → A → Option ℕ → List ℕ → A
+oneBack good other none values = other
+oneBack good other (some n) values = good (getD values 0 0)
+
+abbrev pub paperBack : {A : Type 0} → (ℕ → A) → A → Paper → A
+paperBack good other paper = oneBack good other (paper .number) (paper .values)
