@@ -11,6 +11,10 @@ pub record Paper : Type 0 where
 unfoldable pub accepted : List ℕ → Paper
 accepted values = record { number = some 0; values = values }
 
+-- a refusal by its number, with its values where it has any
+unfoldable pub refusedBy : ℕ → List ℕ → Paper
+refusedBy number values = record { number = some number; values = values }
+
 -- an answer without a number, and with no value
 unfoldable pub unnumbered : Paper
 unnumbered = record { number = none; values = [] }
