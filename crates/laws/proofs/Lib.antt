@@ -1,4 +1,5 @@
 pub mod Below
 pub mod Found
 pub mod Inverse
+pub mod Lists
 pub mod Table

@@ -1,0 +1,31 @@
+-- What lists need beyond the kit's library.
+use mathlib.Core.Path.{_≡_, refl, _∙_}
+use mathlib.Core.List.{List, [], _∷_, map}
+use Prim.Native.Nat.{ℕ, zero, suc, _+_, _<_, _≤_}
+use native.Mathlib.Nat.{le-of-suc-le-suc, not-suc-le-zero}
+use native.Mathlib.Omega.{arith}
+use borrow.Author.Count.{below-more}
+use lib.ListN.{length, getD, set, take, drop, length-take, length-drop}
+use lib.Seq.{getD-take, getD-drop, getD-set-same, getD-set-other}
+
+-- an element of a mapped list, whatever the defaults
+pub getD-map : {A B : Type 0} (f : A → B) (xs : List A) (k : ℕ) (b : B) (a : A) → k < length xs → getD (map f xs) k b ≡ f (getD xs k a)
+getD-map f [] k b a h = absurd (not-suc-le-zero h)
+getD-map f (x ∷ xs) zero b a h = refl
+getD-map f (x ∷ xs) (suc k) b a h = getD-map f xs k b a (le-of-suc-le-suc h)
+
+-- a part of a list: `count` elements from the place `from` on
+module _ {A : Type 0} (xs : List A) (from count : ℕ) where
+  pub length-part : from + count ≤ length xs → length (take count (drop from xs)) ≡ count
+  length-part h = simp (length-take, length-drop) (omega arith)
+
+  pub getD-part : (k : ℕ) (a : A) → k < count → getD (take count (drop from xs)) k a ≡ getD xs (from + k) a
+  getD-part k a h = getD-take count (drop from xs) k a h ∙ getD-drop from xs k a
+
+-- a list that is right below i, and is then stored to at i, is right below i + 1
+pub stored-more : {A : Type 0} (Right : ℕ → A → Type 0) (xs : List A) (i : ℕ) (v d : A) → i < length xs
+    → ((k : ℕ) → k < i → Right k (getD xs k d)) → Right i v → (k : ℕ) → k < i + 1 → Right k (getD (set xs i v) k d)
+stored-more Right xs i v d h before here =
+    below-more (λ (k : ℕ). Right k (getD (set xs i v) k d)) i
+    (λ k below. rw (getD-set-other xs i k v d (λ e. omega arith)) (before k below))
+    (rw (getD-set-same xs i v d h) here)

@@ -1,0 +1,4 @@
+pub mod Bytes
+pub mod Good
+pub mod Heard
+pub mod Whole

@@ -1,0 +1,5 @@
+pub mod Addresses
+pub mod Headers
+pub mod Lines
+pub mod Private
+pub mod Texts

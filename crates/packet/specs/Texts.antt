@@ -1,0 +1,33 @@
+-- Document 01, "Addresses and headers": rows 1 to 23 carry 40 characters, row 0 32 characters for columns 8 to 39. Column 0's byte follows the
+-- address, so in row 0 the header's eight messages stand where the columns 0 to 7 would.
+use mathlib.Core.Bool.{cond}
+use mathlib.Core.List.{List, []}
+use Prim.Native.Nat.{ℕ}
+use lib.Dec.{eqb}
+use lib.ListN.{length, replicate}
+use Rattle.laws.specs.Paper.{Paper, accepted, refusedBy}
+use Rattle.packet.specs.Lines.{packetBytes, packetLength}
+use Rattle.packet.specs.declared.Text.{Text}
+use Rattle.packet.specs.declared.TextRead.{TextRead}
+use Rattle.packet.specs.declared.TextRead.the-variants.{Read, WrongLength}
+
+abbrev pub columns : ℕ
+columns = 40
+
+-- the columns 0 to 7 of row 0 have no character
+abbrev pub headerColumn : ℕ
+headerColumn = 8
+
+-- the forty columns' bytes, after turning: packet byte 3 is column 0's. Zeros beside a refusal
+unfoldable pub textOf : List ℕ → Text
+unfolding packetBytes
+textOf packet =
+    cond (eqb (length packet) packetLength)
+    (record { answer = Read; bytes = packetBytes packet 3 columns })
+    (record { answer = WrongLength; bytes = replicate columns 0 })
+
+-- the paper's numbers
+unfoldable pub textPaper : TextRead → Paper
+unfolding accepted refusedBy
+textPaper Read = accepted []
+textPaper WrongLength = refusedBy 10 []
