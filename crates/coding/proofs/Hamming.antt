@@ -23,7 +23,7 @@ cond-small : (t : Bool) (x y : Option ℕ) → Small x → Small y → Small (co
 cond-small true x y p q = p
 cond-small false x y p q = q
 
-bits-small : (byte : ℕ) → messageBits byte < 16
+pub bits-small : (byte : ℕ) → messageBits byte < 16
 unfolding messageBits bit weight
 bits-small byte = omega arith
 

@@ -1,3 +1,5 @@
 pub mod Characters
+pub mod Damage
 pub mod Hamming
+pub mod Turning
 pub mod Unique

@@ -1,4 +1,5 @@
 pub mod Below
 pub mod Digits
+pub mod Every
 pub mod Paper
 pub mod Unique

@@ -28,6 +28,10 @@ unfoldable pub rowOf : ℕ → ℕ → ℕ
 unfolding rowWeight1 rowWeights2to16
 rowOf first second = rowWeight1 first + rowWeights2to16 second
 
+-- the last row that carries characters; rows past it are not stored
+abbrev pub lastRow : ℕ
+lastRow = 23
+
 -- what the two messages show, where each is good or refused
 unfoldable pub shown : Option ℕ → Option ℕ → Address
 unfolding magazineOf rowOf rowWeight1 rowWeights2to16

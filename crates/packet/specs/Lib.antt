@@ -2,4 +2,5 @@ pub mod Addresses
 pub mod Headers
 pub mod Lines
 pub mod Private
+pub mod Sent
 pub mod Texts
