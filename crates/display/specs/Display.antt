@@ -183,10 +183,10 @@ along state (code ∷ codes) = cellAt state code ∷ along (next state code) cod
 abbrev pub columns : ℕ
 columns = 40
 
+-- codes of 00 to 7F
 unfoldable pub allCodes : List ℕ → Bool
-unfolding within
 allCodes [] = true
-allCodes (code ∷ codes) = within 0x00 0x7F code && allCodes codes
+allCodes (code ∷ codes) = leb code 0x7F && allCodes codes
 
 -- 40 codes of 00 to 7F
 unfoldable pub isRow : List ℕ → Bool

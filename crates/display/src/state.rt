@@ -2,7 +2,7 @@
 // branch, so that a cell takes the same short way whatever its code.
 ghost use mathlib.Core.Path.{_≡_};
 ghost use mathlib.Core.Bool.{cond};
-ghost use Rattle.display.specs.Display.{start, blank, ownCell, pattern, within, givesPattern, mosaic, shown, cell, afterCell, cellAt, next};
+ghost use Rattle.display.specs.Display.{start, blank, ownCell, pattern, givesPattern, mosaic, shown, cell, afterCell, cellAt, next};
 use crate::Cell;
 use crate::Symbol;
 
@@ -48,12 +48,6 @@ fn blank() -> Symbol
         pattern: 0,
         separated: false,
     }
-}
-
-fn is_within(low: u8, high: u8, code: u8) -> bool
-    ensures { λ r. ⌜ r ≡ within low high code ⌝ }
-{
-    (low <= code) & (code <= high)
 }
 
 // The six bits of a mosaic: b1 to b5, and b7.
@@ -103,7 +97,7 @@ impl RowState {
             background,
             flash: self.flash & (code != 0x09),
             conceal: self.conceal | (code == 0x18),
-            boxed: boxes | self.boxed & !unboxes,
+            boxed: self.boxed & !unboxes | boxes,
             double: self.double & (code != 0x0C),
             separated: (self.separated | (code == 0x1A)) & (code != 0x19),
             hold: self.hold | (code == 0x1E),
@@ -116,7 +110,7 @@ impl RowState {
     fn gives_pattern(self, code: u8) -> bool
         ensures { λ r. ⌜ r ≡ givesPattern self code ⌝ }
     {
-        self.mosaics & (is_within(0x20, 0x3F, code) | is_within(0x60, 0x7F, code))
+        self.mosaics & ((0x20 <= code) & (code <= 0x3F) | (0x60 <= code) & (code <= 0x7F))
     }
 
     fn mosaic(self, code: u8) -> Symbol
@@ -161,8 +155,8 @@ impl RowState {
     fn after_cell(self, code: u8) -> RowState
         ensures { λ r. ⌜ r ≡ afterCell self code ⌝ }
     {
-        let letters = is_within(0x01, 0x07, code);
-        let mosaics = is_within(0x11, 0x17, code);
+        let letters = (0x01 <= code) & (code <= 0x07);
+        let mosaics = (0x11 <= code) & (code <= 0x17);
         let colour = letters | mosaics;
         let doubles = code == 0x0D;
         let changes = letters & self.mosaics | mosaics & !self.mosaics | doubles & !self.double;
