@@ -110,17 +110,22 @@ fn print_answer(answer: RowAnswer) {
     }
 }
 
+// What stands after a cell.
+fn print_end(last: bool) {
+    if last {
+        io::write_all(STDOUT_FILENO, b"\n");
+    } else {
+        io::write_all(STDOUT_FILENO, b" ");
+    }
+}
+
 fn print_cells(cells: [Cell; COLUMNS]) {
     let mut column = 0;
     while column < COLUMNS {
         let cell = cells[column];
         print_cell(cell);
         column += 1;
-        if column < COLUMNS {
-            io::write_all(STDOUT_FILENO, b" ");
-        } else {
-            io::write_all(STDOUT_FILENO, b"\n");
-        }
+        print_end(column == COLUMNS);
     }
 }
 
