@@ -161,6 +161,23 @@ afterCell state code =
       before = code;
     }
 
+-- a state in which nothing is new but what is held and the code before, as after a code of 20 to 7F
+unfoldable pub passed : RowState → Symbol → ℕ → RowState
+passed state held code =
+    record {
+      mosaics = state .mosaics;
+      foreground = state .foreground;
+      background = state .background;
+      flash = state .flash;
+      conceal = state .conceal;
+      boxed = state .boxed;
+      double = state .double;
+      separated = state .separated;
+      hold = state .hold;
+      held = held;
+      before = code;
+    }
+
 -- ---- the row
 
 -- effects at a code's own cell come before it is shown

@@ -2,7 +2,8 @@
 // branch, so that a cell takes the same short way whatever its code.
 ghost use mathlib.Core.Path.{_≡_};
 ghost use mathlib.Core.Bool.{cond};
-ghost use Rattle.display.specs.Display.{start, blank, ownCell, pattern, givesPattern, mosaic, shown, cell, afterCell, cellAt, next};
+ghost use Prim.Native.Nat.{_<_, _≤_};
+ghost use Rattle.display.specs.Display.{start, blank, ownCell, pattern, givesPattern, mosaic, shownControl, cell, afterCell, passed, cellAt, next};
 use crate::Cell;
 use crate::Symbol;
 
@@ -61,10 +62,7 @@ impl RowState {
     pub(crate) fn start() -> RowState
         ensures { λ r. ⌜ r ≡ start ⌝ }
     {
-        let held = Symbol::Mosaic {
-            pattern: 0,
-            separated: false,
-        };
+        let held = blank();
         RowState {
             mosaics: false,
             foreground: 7,
@@ -123,18 +121,12 @@ impl RowState {
         }
     }
 
-    // What the code shows.
-    fn shown(self, code: u8) -> Symbol
-        ensures { λ r. ⌜ r ≡ shown self code ⌝ }
+    // What a control code shows.
+    fn shown_control(self) -> Symbol
+        ensures { λ r. ⌜ r ≡ shownControl self ⌝ }
     {
         let held = self.held;
-        let control = symbol_if(self.hold & self.mosaics, held, Symbol::Letter(0x20));
-        let printed = symbol_if(
-            self.gives_pattern(code),
-            self.mosaic(code),
-            Symbol::Letter(code),
-        );
-        symbol_if(code < 0x20, control, printed)
+        symbol_if(self.hold & self.mosaics, held, Symbol::Letter(0x20))
     }
 
     fn cell(self, symbol: Symbol) -> Cell
@@ -151,8 +143,9 @@ impl RowState {
         }
     }
 
-    // Effects after the code's cell.
+    // Effects after a control code's cell.
     fn after_cell(self, code: u8) -> RowState
+        requires { ⌜ code < 0x20 ⌝ }
         ensures { λ r. ⌜ r ≡ afterCell self code ⌝ }
     {
         let letters = (0x01 <= code) & (code <= 0x07);
@@ -162,8 +155,7 @@ impl RowState {
         let changes = letters & self.mosaics | mosaics & !self.mosaics | doubles & !self.double;
         let foreground = number_if(colour, code % 8, self.foreground);
         let old_held = self.held;
-        let new_held = symbol_if(self.gives_pattern(code), self.mosaic(code), old_held);
-        let held = symbol_if(changes, blank(), new_held);
+        let held = symbol_if(changes, blank(), old_held);
         RowState {
             mosaics: (self.mosaics | mosaics) & !letters,
             foreground,
@@ -179,14 +171,61 @@ impl RowState {
         }
     }
 
-    // One cell, and the state after it.
-    pub(crate) fn step(self, code: u8) -> Step
+    // The state after a code of 20 or more: it changes what is held at most.
+    fn passed(self, held: Symbol, code: u8) -> RowState
+        ensures { λ r. ⌜ r ≡ passed self held code ⌝ }
+    {
+        RowState {
+            mosaics: self.mosaics,
+            foreground: self.foreground,
+            background: self.background,
+            flash: self.flash,
+            conceal: self.conceal,
+            boxed: self.boxed,
+            double: self.double,
+            separated: self.separated,
+            hold: self.hold,
+            held,
+            before: code,
+        }
+    }
+
+    fn control(self, code: u8) -> Step
+        requires { ⌜ code < 0x20 ⌝ }
         ensures { λ r. ⌜ (r .cell ≡ cellAt self code) × (r .next ≡ next self code) ⌝ }
     {
         let own = self.own_cell(code);
-        let symbol = own.shown(code);
+        let symbol = own.shown_control();
         let cell = own.cell(symbol);
         let next = own.after_cell(code);
         Step { cell, next }
+    }
+
+    fn printed(self, code: u8) -> Step
+        requires { ⌜ 0x20 ≤ code ⌝ }
+        ensures { λ r. ⌜ (r .cell ≡ cellAt self code) × (r .next ≡ next self code) ⌝ }
+    {
+        if self.gives_pattern(code) {
+            let symbol = self.mosaic(code);
+            let cell = self.cell(symbol);
+            let next = self.passed(symbol, code);
+            Step { cell, next }
+        } else {
+            let held = self.held;
+            let cell = self.cell(Symbol::Letter(code));
+            let next = self.passed(held, code);
+            Step { cell, next }
+        }
+    }
+
+    // One cell, and the state after it. Most codes are letters and mosaics, which leave nearly all of the state: they go a way of their own.
+    pub(crate) fn step(self, code: u8) -> Step
+        ensures { λ r. ⌜ (r .cell ≡ cellAt self code) × (r .next ≡ next self code) ⌝ }
+    {
+        if code < 0x20 {
+            self.control(code)
+        } else {
+            self.printed(code)
+        }
     }
 }
