@@ -1,3 +1,6 @@
 pub mod Choice
 pub mod Codes
+pub mod Marked
+pub mod Rows
 pub mod Steps
+pub mod Unique
