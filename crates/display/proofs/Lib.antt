@@ -1,5 +1,6 @@
 pub mod Choice
 pub mod Codes
+pub mod Held
 pub mod Marked
 pub mod Rows
 pub mod Steps
