@@ -115,10 +115,8 @@ impl RowState {
         ensures { λ r. ⌜ r ≡ mosaic self code ⌝ }
     {
         let pattern = pattern_of(code);
-        Symbol::Mosaic {
-            pattern,
-            separated: self.separated,
-        }
+        let separated = self.separated;
+        Symbol::Mosaic { pattern, separated }
     }
 
     // What a control code shows.
