@@ -1,15 +1,17 @@
--- Laws of a whole row, for those that stand on the display: when it is shown and when refused, that it has always 40 cells, that its first cells depend on
+-- Laws of a whole row, for those that stand on the display: when it is shown and when it is refused, that it has always 40 cells, that its first cells depend on
 -- its first codes alone, and that a row of spaces is blank.
 use mathlib.Core.Path.{_≡_, refl, _∙_, sym, ap}
 use mathlib.Core.Bool.{Bool, true, false, cond}
 use mathlib.Core.List.{List, [], _∷_}
 use Prim.Native.Nat.{ℕ, zero, suc, _<_, _≤_}
-use lib.ListN.{length, take, replicate}
+use native.Mathlib.Omega.{arith}
+use borrow.Author.Tests.{eq-eqb, le-leb}
+use lib.ListN.{length, getD, take, replicate}
 use Rattle.laws.specs.Paper.{accepted, refusedBy}
-use Rattle.display.specs.Display.{space, white, black, start, cellAt, next, along, columns, isRow, zeroCells, Displayed, displayed}
+use Rattle.display.specs.Display.{space, white, black, start, cellAt, next, along, columns, allCodes, isRow, zeroCells, Displayed, displayed}
 use Rattle.display.specs.declared.Cell.{Cell}
 use Rattle.display.specs.declared.state.RowState.{RowState}
-use Rattle.display.proofs.Steps.{along-none, along-cons, row-length}
+use Rattle.display.proofs.Steps.{along-none, along-cons, codes-none, codes-cons, row-length}
 
 -- 40 codes of 00 to 7F are shown
 pub shown-row : (codes : List ℕ) → isRow codes ≡ true → displayed codes ≡ record { answer = accepted []; cells = along start codes }
@@ -20,6 +22,16 @@ shown-row codes e = rw e
 pub refused-row : (codes : List ℕ) → isRow codes ≡ false → displayed codes ≡ record { answer = refusedBy 25 []; cells = zeroCells }
 unfolding displayed
 refused-row codes e = rw e
+
+all-codes : (codes : List ℕ) → ((i : ℕ) → i < length codes → getD codes i 0 ≤ 0x7F) → allCodes codes ≡ true
+all-codes [] h = codes-none
+all-codes (code ∷ codes) h =
+    rw (codes-cons code codes, le-leb code 0x7F (h 0 (omega arith))) (all-codes codes (λ i k. h (suc i) (omega arith)))
+
+-- 40 codes, each of 00 to 7F, are a row
+pub a-row : (codes : List ℕ) → length codes ≡ columns → ((i : ℕ) → i < length codes → getD codes i 0 ≤ 0x7F) → isRow codes ≡ true
+unfolding isRow
+a-row codes e h = rw (eq-eqb (length codes) columns e) (all-codes codes h)
 
 -- a cell for each code
 pub along-length : (state : RowState) (codes : List ℕ) → length (along state codes) ≡ length codes

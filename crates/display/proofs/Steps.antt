@@ -56,7 +56,7 @@ pub all-done : (cells : List Cell) (state : RowState) (codes : List ℕ) (i : �
 all-done cells state codes i h k = rw (take-all, drop-of-length-le codes k, along-none, append-nil)
 
 -- a row has 40 codes, each of 00 to 7F
-both-true : (a b : Bool) → a && b ≡ true → (a ≡ true) × (b ≡ true)
+pub both-true : (a b : Bool) → a && b ≡ true → (a ≡ true) × (b ≡ true)
 both-true true b e = (refl, e)
 both-true false b e = (e, absurd (false≢true e))
 
