@@ -190,7 +190,19 @@ def random_rows():
         yield [chance.randrange(0x20) if chance.random() < often else chance.randrange(0x20, 0x80) for _ in range(COLUMNS)]
 
 
+def marked_cases():
+    """The cases 9 to 12 as document 01 has them: the model itself is held to them."""
+    assert [pattern(code) for code in hexes("35 60 7F")] == [21, 32, 63]
+    held = cells(hexes("11 7F 1E 12 20"))
+    assert held[0][0] == SPACE
+    assert [cell[:2] for cell in held[1:]] == [(("C", 63), 1), (("C", 63), 1), (("C", 63), 1), (("C", 0), 2)]
+    boxed = cells(hexes("0B 0B 41 0A 0A"))
+    assert [column for column, cell in enumerate(boxed) if cell[5]] == [1, 2, 3]
+    assert cells(hexes("01 1D 41"))[2][:3] == (("L", 0x41), 1, 1)
+
+
 def main(folder):
+    marked_cases()
     rows = [*worked_rows(), *refused_rows(), *random_rows()]
     os.makedirs(os.path.join(folder, "data"), exist_ok=True)
     with open(os.path.join(folder, "data", "rows"), "w") as data, open(os.path.join(folder, "stdout"), "w") as out:

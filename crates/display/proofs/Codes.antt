@@ -71,3 +71,11 @@ module _ (state : RowState) (code : ℕ) (low : code < 0x20) where
   pub control-gives : givesPattern state code ≡ false
   unfolding givesPattern
   control-gives = simp (lt-leb 0x20 code low, lt-leb 0x60 code (omega arith), and-false)
+
+-- 00, 0E, 0F, 10, 1B change nothing
+abbrev pub Idle : RowState → ℕ → Type 0
+Idle state code = next state code ≡ passed state (state .held) code
+
+pub idle : (state : RowState) → Idle state 0x00 × Idle state 0x0E × Idle state 0x0F × Idle state 0x10 × Idle state 0x1B
+unfolding next passed
+idle state = (simp and-false, simp and-false, simp and-false, simp and-false, simp and-false)

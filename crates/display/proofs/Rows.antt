@@ -1,17 +1,17 @@
--- Laws of a whole row, for those that stand on the display: when it is shown and when it is refused, that it has always 40 cells, that its first cells depend on
--- its first codes alone, and that a row of spaces is blank.
+-- Laws of a whole row: when it is shown and when it is refused, that it has always 40 cells, that its first cells depend on its first codes alone, and
+-- that a row of spaces is blank.
 use mathlib.Core.Path.{_≡_, refl, _∙_, sym, ap}
-use mathlib.Core.Bool.{Bool, true, false, cond}
+use mathlib.Core.Bool.{Bool, true, false}
 use mathlib.Core.List.{List, [], _∷_}
 use Prim.Native.Nat.{ℕ, zero, suc, _<_, _≤_}
 use native.Mathlib.Omega.{arith}
 use borrow.Author.Tests.{eq-eqb, le-leb}
 use lib.ListN.{length, getD, take, replicate}
 use Rattle.laws.specs.Paper.{accepted, refusedBy}
-use Rattle.display.specs.Display.{space, white, black, start, cellAt, next, along, columns, allCodes, isRow, zeroCells, Displayed, displayed}
+use Rattle.display.specs.Display.{space, white, black, start, cellAt, next, along, columns, allCodes, isRow, zeroCells, displayed}
 use Rattle.display.specs.declared.Cell.{Cell}
 use Rattle.display.specs.declared.state.RowState.{RowState}
-use Rattle.display.proofs.Steps.{along-none, along-cons, codes-none, codes-cons, row-length}
+use Rattle.display.proofs.Steps.{along-none, along-cons, codes-none, codes-cons, row-length, zeros-length}
 
 -- 40 codes of 00 to 7F are shown
 pub shown-row : (codes : List ℕ) → isRow codes ≡ true → displayed codes ≡ record { answer = accepted []; cells = along start codes }
@@ -37,10 +37,6 @@ a-row codes e h = rw (eq-eqb (length codes) columns e) (all-codes codes h)
 pub along-length : (state : RowState) (codes : List ℕ) → length (along state codes) ≡ length codes
 along-length state [] = ap length (along-none state)
 along-length state (code ∷ codes) = ap length (along-cons state code codes) ∙ ap suc (along-length (next state code) codes)
-
-zeros-length : length zeroCells ≡ columns
-unfolding zeroCells
-zeros-length = refl
 
 forty : (codes : List ℕ) (row : Bool) → isRow codes ≡ row → length (displayed codes .cells) ≡ columns
 forty codes true e = rw (shown-row codes e) (along-length start codes ∙ row-length codes e)

@@ -8,7 +8,7 @@ use borrow.Author.Tests.{eqb-true}
 use lib.Dec.{eqb, leb}
 use lib.ListN.{length, getD, take, drop, set, drop-of-length-le}
 use lib.Seq.{drop-cons, take-suc-set, take-all}
-use Rattle.display.specs.Display.{ownCell, shown, cell, afterCell, cellAt, next, along, columns, allCodes, isRow}
+use Rattle.display.specs.Display.{ownCell, shown, cell, afterCell, cellAt, next, along, columns, allCodes, isRow, zeroCells}
 use Rattle.display.specs.declared.Cell.{Cell}
 use Rattle.display.specs.declared.state.RowState.{RowState}
 
@@ -68,3 +68,7 @@ row-is codes e =
 
 pub row-length : (codes : List ℕ) → isRow codes ≡ true → length codes ≡ columns
 row-length codes e = row-is codes e .0
+
+pub zeros-length : length zeroCells ≡ columns
+unfolding zeroCells
+zeros-length = refl

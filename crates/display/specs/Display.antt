@@ -78,6 +78,7 @@ ownCell state code =
 
 -- ---- what is shown
 
+-- a code from one to another
 unfoldable pub within : ℕ → ℕ → ℕ → Bool
 within low high code = leb low code && leb code high
 
@@ -122,7 +123,7 @@ cell state symbol =
 
 -- ---- after their cell
 
--- 01 to 07 letters in that colour
+-- 01 to 07 letters in that colour, which is their low three bits too
 unfoldable pub lettersColour : ℕ → Bool
 unfolding within
 lettersColour code = within 0x01 0x07 code
@@ -143,7 +144,7 @@ changesAfter state code =
     lettersColour code && state .mosaics || mosaicsColour code && not (state .mosaics) || eqb code 0x0D && not (state .double)
 
 -- 01 to 07 letters, 11 to 17 mosaics (both also reveal), 08 flash, 0D double, 1F release; a pattern becomes held; held goes blank when letters/mosaics
--- or size really changes
+-- or size really changes. 00, 0E, 0F, 10 and 1B stand neither here nor at the own cell: they change nothing
 unfoldable pub afterCell : RowState → ℕ → RowState
 unfolding lettersColour mosaicsColour colour changesAfter givesPattern mosaic
 afterCell state code =

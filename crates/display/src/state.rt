@@ -1,5 +1,5 @@
-// The state along a row, and one step of it: effects at the code's own cell, what is shown, effects after the cell. Every part is chosen without a
-// branch, so that a cell takes the same short way whatever its code.
+// The state along a row, and one step of it: effects at the code's own cell, what is shown, effects after the cell. Letters and mosaics, which most
+// codes are, have no effects and go a short way of their own; a control code's effects are chosen without a branch, one way for all of them.
 ghost use mathlib.Core.Path.{_≡_};
 ghost use mathlib.Core.Bool.{cond};
 ghost use Prim.Native.Nat.{_<_, _≤_};
@@ -41,7 +41,7 @@ fn symbol_if(test: bool, symbol: Symbol, other: Symbol) -> Symbol
     if test { symbol } else { other }
 }
 
-// The held mosaic where there is none.
+// What is held where nothing is.
 fn blank() -> Symbol
     ensures { λ r. ⌜ r ≡ blank ⌝ }
 {
@@ -78,7 +78,7 @@ impl RowState {
         }
     }
 
-    // Effects at the code's own cell.
+    // Effects at a control code's own cell.
     fn own_cell(self, code: u8) -> RowState
         ensures { λ r. ⌜ r ≡ ownCell self code ⌝ }
     {
@@ -104,7 +104,7 @@ impl RowState {
         }
     }
 
-    // Whether the code is a mosaic here.
+    // Whether the code is a mosaic, and no letter, in this state.
     fn gives_pattern(self, code: u8) -> bool
         ensures { λ r. ⌜ r ≡ givesPattern self code ⌝ }
     {
@@ -188,6 +188,7 @@ impl RowState {
         }
     }
 
+    // The cell of a control code, with its effects before and after.
     fn control(self, code: u8) -> Step
         requires { ⌜ code < 0x20 ⌝ }
         ensures { λ r. ⌜ (r .cell ≡ cellAt self code) × (r .next ≡ next self code) ⌝ }
@@ -199,6 +200,7 @@ impl RowState {
         Step { cell, next }
     }
 
+    // The cell of a letter or a mosaic: a mosaic becomes held, a letter leaves what is held.
     fn printed(self, code: u8) -> Step
         requires { ⌜ 0x20 ≤ code ⌝ }
         ensures { λ r. ⌜ (r .cell ≡ cellAt self code) × (r .next ≡ next self code) ⌝ }
@@ -216,7 +218,7 @@ impl RowState {
         }
     }
 
-    // One cell, and the state after it. Most codes are letters and mosaics, which leave nearly all of the state: they go a way of their own.
+    // One cell, and the state after it.
     pub(crate) fn step(self, code: u8) -> Step
         ensures { λ r. ⌜ (r .cell ≡ cellAt self code) × (r .next ≡ next self code) ⌝ }
     {

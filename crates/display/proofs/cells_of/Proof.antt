@@ -6,8 +6,8 @@ use Prim.Native.Nat.{ℕ, _≤_, _-_, _+_}
 use native.Mathlib.Omega.{arith}
 use borrow.Author.Needs.{needs}
 use lib.ListN.{length, take, drop, length-set}
-use Rattle.display.specs.Display.{start, along, zeroCells}
-use Rattle.display.proofs.Steps.{one-more, all-done}
+use Rattle.display.specs.Display.{start, along}
+use Rattle.display.proofs.Steps.{one-more, all-done, zeros-length}
 use Rattle.display.proofs.cells_of.Statement.{statement}
 use Rattle.display.proofs.cells_of.Tie as tie
 
@@ -24,12 +24,8 @@ zero-cells-requires c κs = search needs
 start-requires : tie.Need-start-requires Inv-loop μ-loop
 start-requires c κs = search needs
 
-zeros : length zeroCells ≡ 40
-unfolding zeroCells
-zeros = refl
-
 loop-holds : tie.Need-loop-holds Inv-loop μ-loop
-loop-holds c = (search needs, c .before .before .before .pre, ap length (c .before .zero-cells .ensures) ∙ zeros, rw (c .start .ensures))
+loop-holds c = (search needs, c .before .before .before .pre, ap length (c .before .zero-cells .ensures) ∙ zeros-length, rw (c .start .ensures))
 
 shared-slice-read-step : tie.Need-shared-slice-read-step Inv-loop μ-loop
 shared-slice-read-step c = search needs
