@@ -1,0 +1,211 @@
+// A data field: the unit at a place, of any id, and the search for a teletext unit. Bytes are read as they stand, and places count from the
+// field's start, where the identifier stands.
+ghost use mathlib.Core.Bool.{_||_, _&&_, not, false};
+ghost use mathlib.Core.Path.{_≡_};
+ghost use Prim.Native.Nat.{_+_, _≤_};
+ghost use lib.Dec.{eqb};
+ghost use lib.ListN.{length};
+ghost use Rattle.field.specs.Field.{low, high, noField, teletextId, fixedLength, wrongLength, here, start, unitAnswer, unitAt, anyUnitPaper};
+ghost use Rattle.field.specs.Search.{offsetTaken, taken, step, searched, foundPaper};
+ghost use Rattle.field.specs.Private.{firstWay, lookWay, lineStep};
+
+// What stands at a place: a whole unit with its id, its length and the place after it, or the end of the field, or a refusal.
+pub enum AnyUnit {
+    Whole { id: u8, length: u8, after: usize },
+    End,
+    // 14
+    NoField,
+    // 17
+    PastField,
+    // 15, with the unit's place
+    Short(usize),
+    // 16, with the unit's place
+    WrongLength(usize),
+}
+
+// What a search comes to: a packet, with its place, its field parity, its line offset and the place after its unit, or the end, or a refusal.
+pub enum Found {
+    Packet {
+        packet: usize,
+        parity: u8,
+        offset: u8,
+        after: usize,
+    },
+    NoMore,
+    // 14
+    NoField,
+    // 17
+    PastField,
+    // 15, with the unit's place
+    Short(usize),
+    // 16, with the unit's place
+    WrongLength(usize),
+}
+
+// Where a walk starts, or why it does not.
+enum First {
+    At(usize),
+    NoField,
+    PastField,
+}
+
+// What is made of one unit of a walk.
+enum Look {
+    Leave(Found),
+    GoOn(usize),
+}
+
+// The length of every unit under the identifiers 10 to 1F, and of every teletext unit.
+const LENGTH: u8 = 44;
+
+// A teletext unit with its id and length.
+const WHOLE: usize = 46;
+
+fn is_low(identifier: u8) -> bool
+    ensures { λ r. ⌜ r ≡ low identifier ⌝ }
+{
+    (identifier >= 0x10) & (identifier <= 0x1F)
+}
+
+fn is_high(identifier: u8) -> bool
+    ensures { λ r. ⌜ r ≡ high identifier ⌝ }
+{
+    (identifier >= 0x99) & (identifier <= 0x9B)
+}
+
+fn is_teletext(id: u8) -> bool
+    ensures { λ r. ⌜ r ≡ teletextId id ⌝ }
+{
+    (id == 0x02) | (id == 0x03)
+}
+
+fn is_taken(offset: u8) -> bool
+    ensures { λ r. ⌜ r ≡ offsetTaken offset ⌝ }
+{
+    (offset == 0) | (offset >= 7) & (offset <= 22)
+}
+
+// Whether a unit must have the length 44.
+fn is_fixed(identifier: u8, id: u8) -> bool
+    ensures { λ r. ⌜ r ≡ fixedLength identifier id ⌝ }
+{
+    is_low(identifier) | is_high(identifier) & (is_teletext(id) | (id == 0xC0))
+}
+
+// 14, then 17, and place 0 as the first unit's.
+fn entry(field: &[u8], place: usize) -> First
+    ensures { λ r. ⌜ firstWay r ≡ start (now (field .entry)) place ⌝ }
+{
+    if field.len() == 0 {
+        return First::NoField;
+    }
+    if !(is_low(field[0]) | is_high(field[0])) {
+        return First::NoField;
+    }
+    if place > field.len() {
+        return First::PastField;
+    }
+    if place == 0 {
+        return First::At(1);
+    }
+    First::At(place)
+}
+
+// The unit at a place of the field or at its end: 15, then 16. What is left of the field is compared, so that no sum can wrap.
+fn unit_here(field: &[u8], place: usize) -> AnyUnit
+    requires { ⌜ place ≤ length (now field) ⌝ }
+    ensures { λ r. ⌜ anyUnitPaper r ≡ unitAnswer (now (field .entry)) place (here (now (field .entry)) place) ⌝ }
+{
+    if place == field.len() {
+        return AnyUnit::End;
+    }
+    let left = field.len() - place;
+    if left < 2 {
+        return AnyUnit::Short(place);
+    }
+    let id = field[place];
+    let length = field[place + 1];
+    if left - 2 < length as usize {
+        return AnyUnit::Short(place);
+    }
+    if is_fixed(field[0], id) {
+        if length != LENGTH {
+            return AnyUnit::WrongLength(place);
+        }
+    }
+    let after = place + 2 + length as usize;
+    AnyUnit::Whole { id, length, after }
+}
+
+// The unit at a place, of any id.
+pub fn unit_at(field: &[u8], place: usize) -> AnyUnit
+    ensures { λ r. ⌜ anyUnitPaper r ≡ unitAt (now (field .entry)) place ⌝ }
+{
+    match entry(field, place) {
+        First::At(first) => unit_here(field, first),
+        First::NoField => AnyUnit::NoField,
+        First::PastField => AnyUnit::PastField,
+    }
+}
+
+// A whole unit of a teletext id: its packet, or the place after it where its offset or its framing code fails.
+fn look_at_line(field: &[u8], place: usize) -> Look
+    requires { ⌜ place + 46 ≤ length (now field) ⌝ }
+    ensures { λ r. ⌜ lookWay r ≡ lineStep (now (field .entry)) place ⌝ }
+{
+    let line = field[place + 2];
+    let framing = field[place + 3];
+    let offset = line % 32;
+    let after = place + WHOLE;
+    if !is_taken(offset) {
+        return Look::GoOn(after);
+    }
+    if !coding::framing_passes(framing) {
+        return Look::GoOn(after);
+    }
+    let found = Found::Packet {
+        packet: place + 4,
+        parity: line / 32 % 2,
+        offset,
+        after,
+    };
+    Look::Leave(found)
+}
+
+// One unit of a walk.
+fn look_at(field: &[u8], place: usize) -> Look
+    requires { ⌜ (place ≤ length (now field)) × (noField (now field) ≡ false) ⌝ }
+    ensures { λ r. ⌜ lookWay r ≡ step (now (field .entry)) place ⌝ }
+{
+    match unit_here(field, place) {
+        AnyUnit::Whole { id, length: _, after } => {
+            if is_teletext(id) {
+                look_at_line(field, place)
+            } else {
+                Look::GoOn(after)
+            }
+        }
+        AnyUnit::End => Look::Leave(Found::NoMore),
+        AnyUnit::NoField => Look::Leave(Found::NoField),
+        AnyUnit::PastField => Look::Leave(Found::PastField),
+        AnyUnit::Short(at) => Look::Leave(Found::Short(at)),
+        AnyUnit::WrongLength(at) => Look::Leave(Found::WrongLength(at)),
+    }
+}
+
+// The first teletext unit from a place on.
+pub fn search(field: &[u8], place: usize) -> Found
+    ensures { λ r. ⌜ foundPaper r ≡ searched (now (field .entry)) place ⌝ }
+{
+    let mut at = match entry(field, place) {
+        First::At(first) => first,
+        First::NoField => return Found::NoField,
+        First::PastField => return Found::PastField,
+    };
+    loop {
+        match look_at(field, at) {
+            Look::Leave(found) => break found,
+            Look::GoOn(after) => at = after,
+        }
+    }
+}
