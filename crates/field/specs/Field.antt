@@ -22,10 +22,14 @@ low byte = leb 0x10 byte && leb byte 0x1F
 unfoldable pub high : ℕ → Bool
 high byte = leb 0x99 byte && leb byte 0x9B
 
+unfoldable pub known : ℕ → Bool
+unfolding low high
+known byte = low byte || high byte
+
 -- 14: field empty, or identifier not 10 to 1F or 99 to 9B
 unfoldable pub noField : List ℕ → Bool
-unfolding low high
-noField field = eqb (length field) 0 || not (low (identifier field) || high (identifier field))
+unfolding known
+noField field = eqb (length field) 0 || not (known (identifier field))
 
 -- 17: place past the field's length
 unfoldable pub pastField : List ℕ → ℕ → Bool
@@ -52,13 +56,9 @@ unfoldable pub short : List ℕ → ℕ → Bool
 short field place = ltb (length field) (afterAt field place) || leb (length field) (place + 1)
 
 -- 16: identifier 10 to 1F and any length not 44; identifier 99 to 9B and id 02, 03 or C0 with length not 44
-unfoldable pub fixedLength : ℕ → ℕ → Bool
+unfoldable pub wrongLength : ℕ → ℕ → ℕ → Bool
 unfolding low high teletextId
-fixedLength byte id = low byte || high byte && (teletextId id || eqb id 0xC0)
-
-unfoldable pub wrongLength : List ℕ → ℕ → Bool
-unfolding fixedLength
-wrongLength field place = fixedLength (identifier field) (idAt field place) && not (eqb (lengthAt field place) 44)
+wrongLength byte id size = (low byte || high byte && (teletextId id || eqb id 0xC0)) && not (eqb size 44)
 
 -- what stands at a place that is not past the field's length
 pub data Here : Type 0 where
@@ -70,7 +70,9 @@ pub data Here : Type 0 where
 unfoldable pub here : List ℕ → ℕ → Here
 unfolding short wrongLength
 here field place =
-    cond (eqb place (length field)) the-end (cond (short field place) (refused 15) (cond (wrongLength field place) (refused 16) a-unit))
+    cond (eqb place (length field)) the-end
+    (cond (short field place) (refused 15)
+    (cond (wrongLength (identifier field) (idAt field place) (lengthAt field place)) (refused 16) a-unit))
 
 -- ---- from a place asked
 

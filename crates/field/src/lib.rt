@@ -5,7 +5,7 @@ ghost use mathlib.Core.Path.{_≡_};
 ghost use Prim.Native.Nat.{_+_, _≤_};
 ghost use lib.Dec.{eqb};
 ghost use lib.ListN.{length};
-ghost use Rattle.field.specs.Field.{low, high, noField, teletextId, fixedLength, wrongLength, here, start, unitAnswer, unitAt, anyUnitPaper};
+ghost use Rattle.field.specs.Field.{low, high, known, noField, teletextId, wrongLength, here, start, unitAnswer, unitAt, anyUnitPaper};
 ghost use Rattle.field.specs.Search.{offsetTaken, taken, step, searched, foundPaper};
 ghost use Rattle.field.specs.Private.{firstWay, lookWay, lineStep};
 
@@ -73,6 +73,12 @@ fn is_high(identifier: u8) -> bool
     (identifier >= 0x99) & (identifier <= 0x9B)
 }
 
+fn is_known(identifier: u8) -> bool
+    ensures { λ r. ⌜ r ≡ known identifier ⌝ }
+{
+    is_low(identifier) | is_high(identifier)
+}
+
 fn is_teletext(id: u8) -> bool
     ensures { λ r. ⌜ r ≡ teletextId id ⌝ }
 {
@@ -85,11 +91,11 @@ fn is_taken(offset: u8) -> bool
     (offset == 0) | (offset >= 7) & (offset <= 22)
 }
 
-// Whether a unit must have the length 44.
-fn is_fixed(identifier: u8, id: u8) -> bool
-    ensures { λ r. ⌜ r ≡ fixedLength identifier id ⌝ }
+fn is_wrong_length(identifier: u8, id: u8, length: u8) -> bool
+    ensures { λ r. ⌜ r ≡ wrongLength identifier id length ⌝ }
 {
-    is_low(identifier) | is_high(identifier) & (is_teletext(id) | (id == 0xC0))
+    (is_low(identifier) | is_high(identifier) & (is_teletext(id) | (id == 0xC0)))
+        & (length != LENGTH)
 }
 
 // 14, then 17, and place 0 as the first unit's.
@@ -99,7 +105,7 @@ fn entry(field: &[u8], place: usize) -> First
     if field.len() == 0 {
         return First::NoField;
     }
-    if !(is_low(field[0]) | is_high(field[0])) {
+    if !is_known(field[0]) {
         return First::NoField;
     }
     if place > field.len() {
@@ -128,10 +134,8 @@ fn unit_here(field: &[u8], place: usize) -> AnyUnit
     if left - 2 < length as usize {
         return AnyUnit::Short(place);
     }
-    if is_fixed(field[0], id) {
-        if length != LENGTH {
-            return AnyUnit::WrongLength(place);
-        }
+    if is_wrong_length(field[0], id, length) {
+        return AnyUnit::WrongLength(place);
     }
     let after = place + 2 + length as usize;
     AnyUnit::Whole { id, length, after }
