@@ -1,7 +1,7 @@
 -- How the answers of the crate's private functions are read. No public promise cites them.
 use mathlib.Core.Bool.{cond}
 use mathlib.Core.List.{List, []}
-use Prim.Native.Nat.{ℕ, _+_}
+use Prim.Native.Nat.{ℕ}
 use Rattle.laws.specs.Paper.{refusedBy}
 use Rattle.field.specs.Field.{Way, leave, goOn}
 use Rattle.field.specs.Search.{lineTaken, foundAnswer, foundPaper}
@@ -21,7 +21,7 @@ unfolding foundPaper
 lookWay (Leave found) = leave (foundPaper found)
 lookWay (GoOn place) = goOn place
 
--- at a whole unit of a teletext id, whose length is 44
-unfoldable pub lineStep : List ℕ → ℕ → Way
+-- a whole unit of a teletext id, with the place after it
+unfoldable pub lineStep : List ℕ → ℕ → ℕ → Way
 unfolding lineTaken foundAnswer
-lineStep field place = cond (lineTaken field place) (leave (foundAnswer field place)) (goOn (place + 46))
+lineStep field place after = cond (lineTaken field place) (leave (foundAnswer field place after)) (goOn after)

@@ -33,7 +33,7 @@ framingAt field place = getD field (place + 3) 0
 abbrev pub packetPlace : ℕ → ℕ
 packetPlace place = place + 4
 
--- the line's part of the test: the offset and the framing code
+-- the offset and the framing code pass
 unfoldable pub lineTaken : List ℕ → ℕ → Bool
 unfolding offsetTaken framingPasses
 lineTaken field place = offsetTaken (offsetAt field place) && framingPasses (framingAt field place)
@@ -44,9 +44,9 @@ unfolding teletextId lineTaken
 taken field place = teletextId (idAt field place) && lineTaken field place
 
 -- the packet's place, the field parity, the offset and the place after
-unfoldable pub foundAnswer : List ℕ → ℕ → Paper
+unfoldable pub foundAnswer : List ℕ → ℕ → ℕ → Paper
 unfolding accepted
-foundAnswer field place = accepted (packetPlace place ∷ parityAt field place ∷ offsetAt field place ∷ afterAt field place ∷ [])
+foundAnswer field place after = accepted (packetPlace place ∷ parityAt field place ∷ offsetAt field place ∷ after ∷ [])
 
 -- ---- the walk
 
@@ -55,7 +55,7 @@ unfoldable pub stepOf : List ℕ → ℕ → Here → Way
 unfolding taken foundAnswer unitAnswer
 stepOf field place the-end = leave (unitAnswer field place the-end)
 stepOf field place (refused number) = leave (unitAnswer field place (refused number))
-stepOf field place a-unit = cond (taken field place) (leave (foundAnswer field place)) (goOn (afterAt field place))
+stepOf field place a-unit = cond (taken field place) (leave (foundAnswer field place (afterAt field place))) (goOn (afterAt field place))
 
 unfoldable pub step : List ℕ → ℕ → Way
 unfolding stepOf here

@@ -58,9 +58,6 @@ enum Look {
 // The length of every unit under the identifiers 10 to 1F, and of every teletext unit.
 const LENGTH: u8 = 44;
 
-// A teletext unit with its id and length.
-const WHOLE: usize = 46;
-
 fn is_low(identifier: u8) -> bool
     ensures { λ r. ⌜ r ≡ low identifier ⌝ }
 {
@@ -153,18 +150,16 @@ pub fn unit_at(field: &[u8], place: usize) -> AnyUnit
 }
 
 // A whole unit of a teletext id: its packet, or the place after it where its offset or its framing code fails.
-fn look_at_line(field: &[u8], place: usize) -> Look
+fn look_at_line(field: &[u8], place: usize, after: usize) -> Look
     requires { ⌜ place + 46 ≤ length (now field) ⌝ }
-    ensures { λ r. ⌜ lookWay r ≡ lineStep (now (field .entry)) place ⌝ }
+    ensures { λ r. ⌜ lookWay r ≡ lineStep (now (field .entry)) place after ⌝ }
 {
     let line = field[place + 2];
-    let framing = field[place + 3];
     let offset = line % 32;
-    let after = place + WHOLE;
     if !is_taken(offset) {
         return Look::GoOn(after);
     }
-    if !coding::framing_passes(framing) {
+    if !coding::framing_passes(field[place + 3]) {
         return Look::GoOn(after);
     }
     let found = Found::Packet {
@@ -184,7 +179,7 @@ fn look_at(field: &[u8], place: usize) -> Look
     match unit_here(field, place) {
         AnyUnit::Whole { id, length: _, after } => {
             if is_teletext(id) {
-                look_at_line(field, place)
+                look_at_line(field, place, after)
             } else {
                 Look::GoOn(after)
             }
