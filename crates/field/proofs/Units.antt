@@ -2,12 +2,13 @@
 use mathlib.Core.Path.{_≡_, refl, sym, _∙_, ap}
 use mathlib.Core.Bool.{Bool, true, false, cond, not, _&&_, _||_}
 use mathlib.Core.List.{List}
-use Prim.Native.Nat.{ℕ, _+_, _<_, _≤_}
+use Prim.Native.Nat.{ℕ, zero, suc, _+_, _<_, _≤_}
 use native.Mathlib.Omega.{arith}
-use borrow.Author.Tests.{eq-eqb, ne-eqb, lt-ltb, le-ltb, lt-leb, ltb-false, eqb-true, not-false}
+use borrow.Author.Tests.{eq-eqb, ne-eqb, lt-ltb, le-ltb, lt-leb, ltb-false, eqb-true, eqb-false, not-false}
 use lib.Dec.{leb, ltb, eqb}
 use lib.ListN.{length}
-use Rattle.field.specs.Field.{identifier, low, high, known, noField, idAt, lengthAt, afterAt, teletextId, short, wrongLength, Here, the-end, a-unit, refused, here}
+use Rattle.laws.specs.Paper.{Paper}
+use Rattle.field.specs.Field.{identifier, low, high, known, noField, idAt, lengthAt, afterAt, teletextId, short, wrongLength, Here, the-end, a-unit, refused, here, Way, leave, goOn, asked, pastField, start, unitOn, unitAt}
 
 -- two tests, of which neither passed
 pub neither : (a b : Bool) → (a || b) ≡ false → (a ≡ false) × (b ≡ false)
@@ -39,3 +40,83 @@ module _ (field : List ℕ) (place : ℕ) where
       pub unit-here : wrongLength (identifier field) (idAt field place) (lengthAt field place) ≡ false → here field place ≡ a-unit
       unfolding here
       unit-here w = simp (inside, not-short, w)
+
+-- ---- from a place asked
+
+pub unit-from : (field : List ℕ) (place : ℕ) {way : Way} → way ≡ start field place → unitOn field way ≡ unitAt field place
+unfolding unitAt
+unit-from field place e = ap (unitOn field) e
+
+on-goes : (a b : Bool) (p q : Paper) (x first : ℕ) → cond a (leave p) (cond b (leave q) (goOn x)) ≡ goOn first → (a ≡ false) × (b ≡ false) × (x ≡ first)
+on-goes true b p q x first e = absurd (let z : _≡_ {A = ℕ} 0 1 = cc in omega arith)
+on-goes false true p q x first e = absurd (let z : _≡_ {A = ℕ} 0 1 = cc in omega arith)
+on-goes false false p q x first e = (refl, refl, cc)
+
+not-empty : (field : List ℕ) → noField field ≡ false → 0 < length field
+unfolding noField
+not-empty field e =
+    let some = eqb-false (length field) 0 (neither (eqb (length field) 0) (not (known (identifier field))) e .0) in
+    omega arith
+
+asked-inside : (place bound : ℕ) → 0 < bound → place ≤ bound → (0 < asked place) × (asked place ≤ bound)
+unfolding asked
+asked-inside zero bound some inside = (omega arith, omega arith)
+asked-inside (suc place) bound some inside = rw (ne-eqb (suc place) 0 (λ e. omega arith)) (omega arith, omega arith)
+
+-- where a walk starts
+pub record Begins (field : List ℕ) (first : ℕ) : Type 0 where
+  pub identified : noField field ≡ false
+  pub behind : 0 < first
+  pub within : first ≤ length field
+
+begun : (field : List ℕ) (place first : ℕ) → (noField field ≡ false) × (pastField field place ≡ false) × (asked place ≡ first) → Begins field first
+unfolding pastField
+begun field place first (known-is, not-past, e) =
+    let there = asked-inside place (length field) (not-empty field known-is) (ltb-false (length field) place not-past) in
+    record { identified = known-is; behind = omega arith; within = omega arith }
+
+pub begins : (field : List ℕ) (place first : ℕ) → start field place ≡ goOn first → Begins field first
+unfolding start
+begins field place first e = begun field place first (on-goes _ _ _ _ _ _ e)
+
+-- ---- what a unit shows
+
+-- a whole unit, with a length that its identifier and id allow
+pub record IsUnit (field : List ℕ) (place : ℕ) : Type 0 where
+  pub whole : afterAt field place ≤ length field
+  pub allowed : wrongLength (identifier field) (idAt field place) (lengthAt field place) ≡ false
+
+here-picks : (e s w : Bool) → cond e the-end (cond s (refused 15) (cond w (refused 16) a-unit)) ≡ a-unit → (s ≡ false) × (w ≡ false)
+here-picks true s w q = absurd (let z : _≡_ {A = ℕ} 0 1 = cc in omega arith)
+here-picks false true w q = absurd (let z : _≡_ {A = ℕ} 0 1 = cc in omega arith)
+here-picks false false true q = absurd (let z : _≡_ {A = ℕ} 0 1 = cc in omega arith)
+here-picks false false false q = (refl, refl)
+
+not-past : (field : List ℕ) (place : ℕ) → short field place ≡ false → afterAt field place ≤ length field
+unfolding short
+not-past field place e = ltb-false (length field) (afterAt field place) (neither _ _ e .0)
+
+pub is-unit : (field : List ℕ) (place : ℕ) → here field place ≡ a-unit → IsUnit field place
+unfolding here
+is-unit field place e =
+    let picked = here-picks (eqb place (length field)) (short field place) (wrongLength (identifier field) (idAt field place) (lengthAt field place)) e in
+    record { whole = not-past field place (picked .0); allowed = picked .1 }
+
+is-known : (field : List ℕ) → noField field ≡ false → known (identifier field) ≡ true
+unfolding noField
+is-known field e = not-false (known (identifier field)) (neither (eqb (length field) 0) (not (known (identifier field))) e .1)
+
+fixed-length : (l h t c e : Bool) → (l || h) ≡ true → t ≡ true → ((l || h && (t || c)) && not e) ≡ false → e ≡ true
+fixed-length true h t c e k u w = not-false e w
+fixed-length false true true c e k u w = not-false e w
+fixed-length false true false c e k u w = absurd (let z : _≡_ {A = ℕ} 0 1 = cc in omega arith)
+fixed-length false false t c e k u w = absurd (let z : _≡_ {A = ℕ} 0 1 = cc in omega arith)
+
+right-length : (byte id size : ℕ) → known byte ≡ true → teletextId id ≡ true → wrongLength byte id size ≡ false → size ≡ 44
+unfolding known wrongLength
+right-length byte id size k t w = eqb-true size 44 (fixed-length (low byte) (high byte) (teletextId id) (eqb id 0xC0) (eqb size 44) k t w)
+
+-- a unit of a teletext id has 44 bytes
+pub teletext-length : (field : List ℕ) (place : ℕ) → noField field ≡ false → IsUnit field place → teletextId (idAt field place) ≡ true
+    → lengthAt field place ≡ 44
+teletext-length field place k u t = right-length (identifier field) (idAt field place) (lengthAt field place) (is-known field k) t (u .allowed)
