@@ -1,13 +1,13 @@
 -- What stands at a place, by the tests: which case of `here` holds, and what each case shows.
 use mathlib.Core.Path.{_≡_, refl, sym, _∙_, ap}
 use mathlib.Core.Bool.{Bool, true, false, cond, not, _&&_, _||_}
-use mathlib.Core.List.{List}
+use mathlib.Core.List.{List, []}
 use Prim.Native.Nat.{ℕ, zero, suc, _+_, _<_, _≤_}
 use native.Mathlib.Omega.{arith}
 use borrow.Author.Tests.{eq-eqb, ne-eqb, lt-ltb, le-ltb, lt-leb, ltb-false, eqb-true, eqb-false, not-false}
 use lib.Dec.{leb, ltb, eqb}
 use lib.ListN.{length}
-use Rattle.laws.specs.Paper.{Paper}
+use Rattle.laws.specs.Paper.{Paper, refusedBy}
 use Rattle.field.specs.Field.{identifier, low, high, known, noField, idAt, lengthAt, afterAt, teletextId, short, wrongLength, Here, the-end, a-unit, refused, here, Way, leave, goOn, asked, pastField, start, unitOn, unitAt}
 
 -- two tests, of which neither passed
@@ -75,9 +75,27 @@ begun field place first (known-is, not-past, e) =
     let there = asked-inside place (length field) (not-empty field known-is) (ltb-false (length field) place not-past) in
     record { identified = known-is; behind = omega arith; within = omega arith }
 
-pub begins : (field : List ℕ) (place first : ℕ) → start field place ≡ goOn first → Begins field first
+on-start : (field : List ℕ) (place first : ℕ) → start field place ≡ goOn first → (noField field ≡ false) × (pastField field place ≡ false) × (asked place ≡ first)
 unfolding start
-begins field place first e = begun field place first (on-goes _ _ _ _ _ _ e)
+on-start field place first e = on-goes _ _ _ _ _ _ e
+
+pub begins : (field : List ℕ) (place first : ℕ) → start field place ≡ goOn first → Begins field first
+begins field place first e = begun field place first (on-start field place first e)
+
+pub begins-at : (field : List ℕ) (place first : ℕ) → start field place ≡ goOn first → asked place ≡ first
+begins-at field place first e = on-start field place first e .2
+
+left-plain : (a b : Bool) (n m x : ℕ) (answer : Paper) → cond a (leave (refusedBy n [])) (cond b (leave (refusedBy m [])) (goOn x)) ≡ leave answer
+    → length (answer .values) ≡ 0
+unfolding refusedBy
+left-plain true b n m x answer e = cc
+left-plain false true n m x answer e = cc
+left-plain false false n m x answer e = absurd (let z : _≡_ {A = ℕ} 0 1 = cc in omega arith)
+
+-- 14 and 17 have no value
+pub start-plain : (field : List ℕ) (place : ℕ) (answer : Paper) → start field place ≡ leave answer → length (answer .values) ≡ 0
+unfolding start
+start-plain field place answer e = left-plain (noField field) (pastField field place) 14 17 (asked place) answer e
 
 -- ---- what a unit shows
 
