@@ -10,8 +10,8 @@ use Rattle.laws.specs.Paper.{Paper, accepted}
 use Rattle.coding.specs.Bits.{framingPasses}
 use Rattle.field.specs.Field.{idAt, lengthAt, afterAt, teletextId, noField, Here, the-end, a-unit, refused, here, Way, leave, goOn, asked, start, unitAnswer}
 use Rattle.field.specs.Search.{parityAt, offsetAt, offsetTaken, framingAt, packetPlace, lineTaken, taken, foundAnswer, stepOf, step, Walk, left, onward, walk, walkFrom, walkOn, walked, searched}
-use Rattle.field.proofs.Units.{Begins, begins, begins-at, start-plain, is-unit, teletext-length}
-use Rattle.field.proofs.Walk.{GoesOn, goes-on, further}
+use Rattle.field.proofs.Units.{Begins, begins, begins-at, starts, asked-behind, start-plain, is-unit, teletext-length}
+use Rattle.field.proofs.Walk.{GoesOn, goes-on, further, search-from}
 
 -- ---- what was passed over
 
@@ -82,6 +82,7 @@ pub record FoundAt (field : List ℕ) (from : ℕ) (passed : List ℕ) (packet p
   pub reached : Chain field from passed unit-place
   pub not-before : from ≤ unit-place
   -- a whole teletext unit whose offset and framing code pass
+  pub identified : noField field ≡ false
   pub stands : here field unit-place ≡ a-unit
   pub is-taken : taken field unit-place ≡ true
   pub packet-is : packet ≡ unit-place + 4
@@ -117,6 +118,7 @@ module _ (field : List ℕ) (known-is : noField field ≡ false) (packet parity 
         unit-place = place;
         reached = refl;
         not-before = omega arith;
+        identified = known-is;
         stands = h;
         is-taken = t;
         packet-is = p;
@@ -162,6 +164,7 @@ module _ (field : List ℕ) (known-is : noField field ≡ false) (packet parity 
         unit-place = found .unit-place;
         reached = (refl, subst (λ (at : ℕ). Chain field at passed (found .unit-place)) (sym (on .after-is)) (found .reached));
         not-before = omega arith;
+        identified = known-is;
         stands = found .stands;
         is-taken = found .is-taken;
         packet-is = found .packet-is;
@@ -200,8 +203,35 @@ module _ (field : List ℕ) (place packet parity offset after : ℕ) where
   unfolding searched walked
   found e = found-on (start field place) refl e
 
--- a search from the place after what was found goes on from there: the two walks are one chain of units
-pub again : (field : List ℕ) (from : ℕ) (passed : List ℕ) (here-found : ℕ) (later : List ℕ) (last : ℕ)
-    → Chain field from passed here-found → Chain field (afterAt field here-found) later last → Chain field from (passed ++ (here-found ∷ later)) last
-again field from [] here-found later last c d = (c, d)
-again field from (place ∷ places) here-found later last c d = (c .0, again field (afterAt field place) places here-found later last (c .1) d)
+-- ---- searching again
+
+-- two chains, of which the second starts after the last unit of the first, are one
+joined : (field : List ℕ) (from : ℕ) (passed : List ℕ) (middle : ℕ) (later : List ℕ) (last : ℕ)
+    → Chain field from passed middle → Chain field (afterAt field middle) later last → Chain field from (passed ++ (middle ∷ later)) last
+joined field from [] middle later last c d = (c, d)
+joined field from (place ∷ places) middle later last c d = (c .0, joined field (afterAt field place) places middle later last (c .1) d)
+
+module _ (field : List ℕ) (from : ℕ) (passed : List ℕ) (packet parity offset after : ℕ) (first : FoundAt field from passed packet parity offset after) where
+  begins-after : Begins field after
+  begins-after =
+      let far = first .after-46 in
+      let there = first .packet-is in
+      let fits = first .inside in
+      record { identified = first .identified; behind = omega arith; within = omega arith }
+
+  -- the search from the place after is the walk from that place
+  pub search-after : searched field after ≡ walkFrom field after .ended
+  unfolding walkOn
+  search-after = sym (search-from field after (sym (starts field after begins-after)))
+
+  -- what it finds lies behind what was found, and the two searches are one chain of units
+  pub search-again : (packet′ parity′ offset′ after′ : ℕ) (second : searched field after ≡ four packet′ parity′ offset′ after′)
+      → (after ≤ found field after packet′ parity′ offset′ after′ second .unit-place)
+      × Chain field from (passed ++ (first .unit-place ∷ walked field after .passed)) (found field after packet′ parity′ offset′ after′ second .unit-place)
+  search-again packet′ parity′ offset′ after′ second =
+      let next = found field after packet′ parity′ offset′ after′ second in
+      let same = asked-behind after (begins-after .behind) in
+      let later = next .not-before in
+      (omega arith,
+      joined field from passed (first .unit-place) (walked field after .passed) (next .unit-place) (first .reached)
+      (subst (λ (at : ℕ). Chain field at (walked field after .passed) (next .unit-place)) (same ∙ first .after-is) (next .reached)))

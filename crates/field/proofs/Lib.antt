@@ -1,4 +1,5 @@
 pub mod Ends
 pub mod Steps
+pub mod Unique
 pub mod Units
 pub mod Walk

@@ -85,6 +85,24 @@ begins field place first e = begun field place first (on-start field place first
 pub begins-at : (field : List ℕ) (place first : ℕ) → start field place ≡ goOn first → asked place ≡ first
 begins-at field place first e = on-start field place first e .2
 
+pub asked-behind : (place : ℕ) → 0 < place → asked place ≡ place
+unfolding asked
+asked-behind place behind = rw (ne-eqb place 0 (λ e. omega arith))
+
+picks : (a b : Bool) (p q : Paper) (x y : ℕ) → a ≡ false → b ≡ false → x ≡ y → cond a (leave p) (cond b (leave q) (goOn x)) ≡ goOn y
+picks a b p q x y e f g = rw (e, f, g)
+
+not-past-field : (field : List ℕ) (place : ℕ) → place ≤ length field → pastField field place ≡ false
+unfolding pastField
+not-past-field field place within = le-ltb (length field) place within
+
+-- a place behind the identifier and within the field is its own start
+pub starts : (field : List ℕ) (place : ℕ) → Begins field place → start field place ≡ goOn place
+unfolding start
+starts field place begin =
+    picks (noField field) (pastField field place) _ _ (asked place) place
+    (begin .identified) (not-past-field field place (begin .within)) (asked-behind place (begin .behind))
+
 left-plain : (a b : Bool) (n m x : ℕ) (answer : Paper) → cond a (leave (refusedBy n [])) (cond b (leave (refusedBy m [])) (goOn x)) ≡ leave answer
     → length (answer .values) ≡ 0
 unfolding refusedBy
