@@ -46,12 +46,14 @@ passed-of : (field : List ℕ) (place : ℕ) (way : Way) (rest : ℕ → Walk) �
 unfolding onward left
 passed-of field place (leave answer) rest s each = tt
 passed-of field place (goOn after) rest s each =
-    let on = goes-on field place after s in
-    (record {
-      stands = on .stands;
-      whole = is-unit field place (on .stands) .whole;
-      reason = reason-of field place (on .not-taken);
-    }, each after)
+    let on = goes-on field place after s in (
+      record {
+        stands = on .stands;
+        whole = is-unit field place (on .stands) .whole;
+        reason = reason-of field place (on .not-taken);
+      },
+      each after,
+    )
 
 pub passed-in : (bound : ℕ) (field : List ℕ) (place : ℕ) → Each (PassedOver field) (walk bound field place .passed)
 unfolding walk left
@@ -93,7 +95,7 @@ pub record FoundAt (field : List ℕ) (from : ℕ) (passed : List ℕ) (packet p
   pub after-46 : after ≡ unit-place + 46
   pub inside : packet + 42 ≤ length field
 
-abbrev four : ℕ → ℕ → ℕ → ℕ → Paper
+abbrev pub four : ℕ → ℕ → ℕ → ℕ → Paper
 four packet parity offset after = accepted (packet ∷ parity ∷ offset ∷ after ∷ [])
 
 both-hold : (a b : Bool) → (a && b) ≡ true → a ≡ true
@@ -231,7 +233,8 @@ module _ (field : List ℕ) (from : ℕ) (passed : List ℕ) (packet parity offs
   search-again packet′ parity′ offset′ after′ second =
       let next = found field after packet′ parity′ offset′ after′ second in
       let same = asked-behind after (begins-after .behind) in
-      let later = next .not-before in
-      (omega arith,
-      joined field from passed (first .unit-place) (walked field after .passed) (next .unit-place) (first .reached)
-      (subst (λ (at : ℕ). Chain field at (walked field after .passed) (next .unit-place)) (same ∙ first .after-is) (next .reached)))
+      let later = next .not-before in (
+        omega arith,
+        joined field from passed (first .unit-place) (walked field after .passed) (next .unit-place) (first .reached)
+            (subst (λ (at : ℕ). Chain field at (walked field after .passed) (next .unit-place)) (same ∙ first .after-is) (next .reached)),
+      )

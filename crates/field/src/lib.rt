@@ -1,12 +1,11 @@
 // A data field: the unit at a place, of any id, and the search for a teletext unit. Bytes are read as they stand, and places count from the
 // field's start, where the identifier stands.
-ghost use mathlib.Core.Bool.{_||_, _&&_, not, false};
+ghost use mathlib.Core.Bool.{false};
 ghost use mathlib.Core.Path.{_≡_};
 ghost use Prim.Native.Nat.{_+_, _≤_};
-ghost use lib.Dec.{eqb};
 ghost use lib.ListN.{length};
-ghost use Rattle.field.specs.Field.{low, high, known, noField, teletextId, wrongLength, here, start, unitAnswer, unitAt, anyUnitPaper};
-ghost use Rattle.field.specs.Search.{offsetTaken, taken, step, searched, foundPaper};
+ghost use Rattle.field.specs.Field.{low, high, known, noField, lengthAt, teletextId, wrongLength, here, start, unitAnswer, unitAt, anyUnitPaper};
+ghost use Rattle.field.specs.Search.{offsetTaken, lineTaken, step, searched, foundPaper};
 ghost use Rattle.field.specs.Private.{firstWay, lookWay, lineStep};
 
 // What stands at a place: a whole unit with its id, its length and the place after it, or the end of the field, or a refusal.
@@ -114,27 +113,36 @@ fn entry(field: &[u8], place: usize) -> First
     First::At(place)
 }
 
-// The unit at a place of the field or at its end: 15, then 16. What is left of the field is compared, so that no sum can wrap.
+// The length byte of a unit, or 0 where it is missing: with id and length byte the unit then runs past the field all the same.
+fn length_at(field: &[u8], place: usize) -> u8
+    requires { ⌜ place ≤ length (now field) ⌝ }
+    ensures { λ r. ⌜ r ≡ lengthAt (now (field .entry)) place ⌝ }
+{
+    if field.len() - place > 1 {
+        return field[place + 1];
+    }
+    0
+}
+
+// The unit at a place of the field or at its end: 15, then 16. It is what is left of the field that is compared, so that no sum can wrap.
 fn unit_here(field: &[u8], place: usize) -> AnyUnit
     requires { ⌜ place ≤ length (now field) ⌝ }
     ensures { λ r. ⌜ anyUnitPaper r ≡ unitAnswer (now (field .entry)) place (here (now (field .entry)) place) ⌝ }
 {
-    if place == field.len() {
+    let left = field.len() - place;
+    if left == 0 {
         return AnyUnit::End;
     }
-    let left = field.len() - place;
-    if left < 2 {
-        return AnyUnit::Short(place);
-    }
     let id = field[place];
-    let length = field[place + 1];
-    if left - 2 < length as usize {
+    let length = length_at(field, place);
+    let taken = length as usize + 2;
+    if left < taken {
         return AnyUnit::Short(place);
     }
     if is_wrong_length(field[0], id, length) {
         return AnyUnit::WrongLength(place);
     }
-    let after = place + 2 + length as usize;
+    let after = place + taken;
     AnyUnit::Whole { id, length, after }
 }
 
@@ -149,24 +157,28 @@ pub fn unit_at(field: &[u8], place: usize) -> AnyUnit
     }
 }
 
-// A whole unit of a teletext id: its packet, or the place after it where its offset or its framing code fails.
-fn look_at_line(field: &[u8], place: usize, after: usize) -> Look
+// Whether the offset and the framing code of a whole teletext unit pass.
+fn line_passes(field: &[u8], place: usize) -> bool
     requires { ⌜ place + 46 ≤ length (now field) ⌝ }
-    ensures { λ r. ⌜ lookWay r ≡ lineStep (now (field .entry)) place after ⌝ }
+    ensures { λ r. ⌜ r ≡ lineTaken (now (field .entry)) place ⌝ }
 {
+    is_taken(field[place + 2] % 32) & coding::framing_passes(field[place + 3])
+}
+
+// A whole unit of a teletext id: its packet, or the next place where its line does not pass.
+fn look_at_line(field: &[u8], place: usize, next: usize) -> Look
+    requires { ⌜ place + 46 ≤ length (now field) ⌝ }
+    ensures { λ r. ⌜ lookWay r ≡ lineStep (now (field .entry)) place next ⌝ }
+{
+    if !line_passes(field, place) {
+        return Look::GoOn(next);
+    }
     let line = field[place + 2];
-    let offset = line % 32;
-    if !is_taken(offset) {
-        return Look::GoOn(after);
-    }
-    if !coding::framing_passes(field[place + 3]) {
-        return Look::GoOn(after);
-    }
     let found = Found::Packet {
         packet: place + 4,
         parity: line / 32 % 2,
-        offset,
-        after,
+        offset: line % 32,
+        after: next,
     };
     Look::Leave(found)
 }
@@ -177,7 +189,11 @@ fn look_at(field: &[u8], place: usize) -> Look
     ensures { λ r. ⌜ lookWay r ≡ step (now (field .entry)) place ⌝ }
 {
     match unit_here(field, place) {
-        AnyUnit::Whole { id, length: _, after } => {
+        AnyUnit::Whole {
+            id,
+            length: _,
+            after,
+        } => {
             if is_teletext(id) {
                 look_at_line(field, place, after)
             } else {

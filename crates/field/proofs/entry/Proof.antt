@@ -20,35 +20,39 @@ is-known-requires c κs = search needs
 returns-2 : tie.Need-returns-2
 unfolding start firstWay
 returns-2 c =
-    simp
-    (ne-eqb _ _ (c .before .before .before .if1 .left),
-    sym (c .before .is-known .ensures) ∙ not-true _ (c .if2 .taken))
+    simp (
+      ne-eqb _ _ (c .before .before .before .if1 .left),
+      sym (c .before .is-known .ensures) ∙ not-true _ (c .if2 .taken),
+    )
 
 returns-3 : tie.Need-returns-3
 unfolding start firstWay
 returns-3 c =
-    simp
-    (ne-eqb _ _ (c .before .before .before .before .if1 .left),
-    sym (c .before .before .is-known .ensures) ∙ not-false _ (c .before .if2 .left),
-    lt-ltb _ _ (c .if3 .taken))
+    simp (
+      ne-eqb _ _ (c .before .before .before .before .if1 .left),
+      sym (c .before .before .is-known .ensures) ∙ not-false _ (c .before .if2 .left),
+      lt-ltb _ _ (c .if3 .taken),
+    )
 
 returns-4 : tie.Need-returns-4
 unfolding start firstWay
 returns-4 c =
-    simp
-    (ne-eqb _ _ (c .before .before .before .before .before .if1 .left),
-    sym (c .before .before .before .is-known .ensures) ∙ not-false _ (c .before .before .if2 .left),
-    le-ltb _ _ (c .before .if3 .left),
-    eq-eqb _ _ (c .if4 .taken))
+    simp (
+      ne-eqb _ _ (c .before .before .before .before .before .if1 .left),
+      sym (c .before .before .before .is-known .ensures) ∙ not-false _ (c .before .before .if2 .left),
+      le-ltb _ _ (c .before .if3 .left),
+      eq-eqb _ _ (c .if4 .taken),
+    )
 
 returns-5 : tie.Need-returns-5
 unfolding start firstWay
 returns-5 c =
-    simp
-    (ne-eqb _ _ (c .before .before .before .before .before .if1 .left),
-    sym (c .before .before .before .is-known .ensures) ∙ not-false _ (c .before .before .if2 .left),
-    le-ltb _ _ (c .before .if3 .left),
-    ne-eqb _ _ (c .if4 .left))
+    simp (
+      ne-eqb _ _ (c .before .before .before .before .before .if1 .left),
+      sym (c .before .before .before .is-known .ensures) ∙ not-false _ (c .before .before .if2 .left),
+      le-ltb _ _ (c .before .if3 .left),
+      ne-eqb _ _ (c .if4 .left),
+    )
 
 pub entry-spec : {M : Type 1} → statement M
 entry-spec =
