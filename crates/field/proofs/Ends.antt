@@ -9,7 +9,7 @@ use lib.ListN.{length, getD}
 use Rattle.laws.specs.Paper.{Paper, accepted}
 use Rattle.coding.specs.Bits.{framingPasses}
 use Rattle.field.specs.Field.{idAt, lengthAt, afterAt, teletextId, noField, Here, the-end, a-unit, refused, here, Way, leave, goOn, asked, start, unitAnswer}
-use Rattle.field.specs.Search.{parityAt, offsetAt, offsetTaken, framingAt, packetPlace, lineTaken, taken, foundAnswer, stepOf, step, Walk, left, onward, walk, walkFrom, walkOn, walked, searched}
+use Rattle.field.specs.Search.{parityAt, offsetAt, offsetPasses, framingAt, packetPlace, linePasses, goodTeletext, foundAnswer, stepOf, step, Walk, left, onward, walk, walkFrom, walkOn, walked, searched}
 use Rattle.field.proofs.Units.{Begins, begins, begins-at, starts, asked-behind, start-plain, is-unit, teletext-length}
 use Rattle.field.proofs.Walk.{GoesOn, goes-on, further, search-from}
 
@@ -19,7 +19,7 @@ use Rattle.field.proofs.Walk.{GoesOn, goes-on, further, search-from}
 abbrev pub Reason : List ℕ → ℕ → Type 0
 Reason field place =
     (teletextId (idAt field place) ≡ false)
-    ⊎ ((offsetTaken (offsetAt field place) ≡ false) ⊎ (framingPasses (framingAt field place) ≡ false))
+    ⊎ ((offsetPasses (offsetAt field place) ≡ false) ⊎ (framingPasses (framingAt field place) ≡ false))
 
 -- a whole unit, with its reason
 pub record PassedOver (field : List ℕ) (place : ℕ) : Type 0 where
@@ -37,8 +37,8 @@ one-fails false b c e = inl refl
 one-fails true false c e = inr (inl refl)
 one-fails true true c e = inr (inr e)
 
-reason-of : (field : List ℕ) (place : ℕ) → taken field place ≡ false → Reason field place
-unfolding taken
+reason-of : (field : List ℕ) (place : ℕ) → goodTeletext field place ≡ false → Reason field place
+unfolding goodTeletext
 reason-of field place e = one-fails _ _ _ e
 
 passed-of : (field : List ℕ) (place : ℕ) (way : Way) (rest : ℕ → Walk) → step field place ≡ way
@@ -50,7 +50,7 @@ passed-of field place (goOn after) rest s each =
       record {
         stands = on .stands;
         whole = is-unit field place (on .stands) .whole;
-        reason = reason-of field place (on .not-taken);
+        reason = reason-of field place (on .not-good);
       },
       each after,
     )
@@ -86,7 +86,7 @@ pub record FoundAt (field : List ℕ) (from : ℕ) (passed : List ℕ) (packet p
   -- a whole teletext unit whose offset and framing code pass
   pub identified : noField field ≡ false
   pub stands : here field unit-place ≡ a-unit
-  pub is-taken : taken field unit-place ≡ true
+  pub is-good : goodTeletext field unit-place ≡ true
   pub packet-is : packet ≡ unit-place + 4
   pub parity-is : parity ≡ parityAt field unit-place
   pub offset-is : offset ≡ offsetAt field unit-place
@@ -102,15 +102,15 @@ both-hold : (a b : Bool) → (a && b) ≡ true → a ≡ true
 both-hold true b e = refl
 both-hold false b e = e
 
-teletext-of : (field : List ℕ) (place : ℕ) → taken field place ≡ true → teletextId (idAt field place) ≡ true
-unfolding taken
+teletext-of : (field : List ℕ) (place : ℕ) → goodTeletext field place ≡ true → teletextId (idAt field place) ≡ true
+unfolding goodTeletext
 teletext-of field place e = both-hold _ _ e
 
 module _ (field : List ℕ) (known-is : noField field ≡ false) (packet parity offset after : ℕ) where
-  at-taken : (place : ℕ) → here field place ≡ a-unit → taken field place ≡ true → foundAnswer field place (afterAt field place) ≡ four packet parity offset after
+  at-good : (place : ℕ) → here field place ≡ a-unit → goodTeletext field place ≡ true → foundAnswer field place (afterAt field place) ≡ four packet parity offset after
       → FoundAt field place [] packet parity offset after
   unfolding foundAnswer accepted
-  at-taken place h t e =
+  at-good place h t e =
       let is = is-unit field place h in
       let long = teletext-length field place known-is is (teletext-of field place t) in
       let p : packet ≡ place + 4 = sym (ap (λ (paper : Paper). getD (paper .values) 0 0) e) in
@@ -122,7 +122,7 @@ module _ (field : List ℕ) (known-is : noField field ≡ false) (packet parity 
         not-before = omega arith;
         identified = known-is;
         stands = h;
-        is-taken = t;
+        is-good = t;
         packet-is = p;
         parity-is = sym (ap (λ (paper : Paper). getD (paper .values) 1 0) e);
         offset-is = sym (ap (λ (paper : Paper). getD (paper .values) 2 0) e);
@@ -131,10 +131,10 @@ module _ (field : List ℕ) (known-is : noField field ≡ false) (packet parity 
         inside = omega arith;
       }
 
-  at-unit : (place : ℕ) (t : Bool) → here field place ≡ a-unit → taken field place ≡ t
+  at-unit : (place : ℕ) (t : Bool) → here field place ≡ a-unit → goodTeletext field place ≡ t
       → cond t (leave (foundAnswer field place (afterAt field place))) (goOn (afterAt field place)) ≡ leave (four packet parity offset after)
       → FoundAt field place [] packet parity offset after
-  at-unit place true h t e = at-taken place h t (cc)
+  at-unit place true h t e = at-good place h t (cc)
   at-unit place false h t e = absurd (let z : _≡_ {A = ℕ} 0 1 = cc in omega arith)
 
   -- an answer of four values is no other answer
@@ -149,7 +149,7 @@ module _ (field : List ℕ) (known-is : noField field ≡ false) (packet parity 
   unfolding stepOf unitAnswer accepted
   leave-of place the-end h e = absurd (let n = four-values _ e in omega arith)
   leave-of place (refused number) h e = absurd (let n = four-values _ e in omega arith)
-  leave-of place a-unit h e = at-unit place (taken field place) h refl e
+  leave-of place a-unit h e = at-unit place (goodTeletext field place) h refl e
 
   left-at : (place : ℕ) → step field place ≡ leave (four packet parity offset after) → FoundAt field place [] packet parity offset after
   unfolding step
@@ -168,7 +168,7 @@ module _ (field : List ℕ) (known-is : noField field ≡ false) (packet parity 
         not-before = omega arith;
         identified = known-is;
         stands = found .stands;
-        is-taken = found .is-taken;
+        is-good = found .is-good;
         packet-is = found .packet-is;
         parity-is = found .parity-is;
         offset-is = found .offset-is;

@@ -9,7 +9,7 @@ use lib.ListN.{length, getD}
 use Rattle.laws.specs.Paper.{Paper, accepted}
 use Rattle.coding.specs.Bits.{framingPasses}
 use Rattle.field.specs.Field.{idAt, lengthAt, afterAt, teletextId, noField, Here, the-end, a-unit, refused, here, Way, leave, goOn, asked, start, unitAnswer}
-use Rattle.field.specs.Search.{parityAt, offsetAt, offsetTaken, framingAt, packetPlace, lineTaken, taken, foundAnswer, stepOf, step, Walk, left, onward, walk, walkFrom, walkOn, walked, searched}
+use Rattle.field.specs.Search.{parityAt, offsetAt, offsetPasses, framingAt, packetPlace, linePasses, goodTeletext, foundAnswer, stepOf, step, Walk, left, onward, walk, walkFrom, walkOn, walked, searched}
 use Rattle.field.proofs.Units.{Begins, begins, IsUnit, is-unit, teletext-length}
 
 -- ---- a step that goes on
@@ -17,7 +17,7 @@ use Rattle.field.proofs.Units.{Begins, begins, IsUnit, is-unit, teletex
 -- a whole unit that the search does not leave at
 pub record GoesOn (field : List ℕ) (place after : ℕ) : Type 0 where
   pub stands : here field place ≡ a-unit
-  pub not-taken : taken field place ≡ false
+  pub not-good : goodTeletext field place ≡ false
   pub after-is : afterAt field place ≡ after
 
 not-left : (t : Bool) (paper : Paper) (x after : ℕ) → cond t (leave paper) (goOn x) ≡ goOn after → (t ≡ false) × (x ≡ after)
@@ -30,8 +30,8 @@ module _ (field : List ℕ) (place : ℕ) where
   goes-of the-end after h e = absurd (let z : _≡_ {A = ℕ} 0 1 = cc in omega arith)
   goes-of (refused number) after h e = absurd (let z : _≡_ {A = ℕ} 0 1 = cc in omega arith)
   goes-of a-unit after h e =
-      let both = not-left (taken field place) _ _ _ e in
-      record { stands = h; not-taken = both .0; after-is = both .1 }
+      let both = not-left (goodTeletext field place) _ _ _ e in
+      record { stands = h; not-good = both .0; after-is = both .1 }
 
   pub goes-on : (after : ℕ) → step field place ≡ goOn after → GoesOn field place after
   unfolding step

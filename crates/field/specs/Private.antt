@@ -4,7 +4,7 @@ use mathlib.Core.List.{List, []}
 use Prim.Native.Nat.{ℕ}
 use Rattle.laws.specs.Paper.{refusedBy}
 use Rattle.field.specs.Field.{Way, leave, goOn}
-use Rattle.field.specs.Search.{lineTaken, foundAnswer, foundPaper}
+use Rattle.field.specs.Search.{linePasses, foundAnswer, foundPaper}
 use Rattle.field.specs.declared.First.{First}
 use Rattle.field.specs.declared.First.the-variants.{At, NoField, PastField}
 use Rattle.field.specs.declared.Look.{Look}
@@ -23,5 +23,5 @@ lookWay (GoOn place) = goOn place
 
 -- a whole unit of a teletext id, with the place after it
 unfoldable pub lineStep : List ℕ → ℕ → ℕ → Way
-unfolding lineTaken foundAnswer
-lineStep field place after = cond (lineTaken field place) (leave (foundAnswer field place after)) (goOn after)
+unfolding linePasses foundAnswer
+lineStep field place after = cond (linePasses field place) (leave (foundAnswer field place after)) (goOn after)

@@ -24,8 +24,8 @@ abbrev pub offsetAt : List ℕ → ℕ → ℕ
 offsetAt field place = lineByte field place % 32
 
 -- 0 or 7 to 22
-unfoldable pub offsetTaken : ℕ → Bool
-offsetTaken offset = eqb offset 0 || leb 7 offset && leb offset 22
+unfoldable pub offsetPasses : ℕ → Bool
+offsetPasses offset = eqb offset 0 || leb 7 offset && leb offset 22
 
 abbrev pub framingAt : List ℕ → ℕ → ℕ
 framingAt field place = getD field (place + 3) 0
@@ -34,14 +34,14 @@ abbrev pub packetPlace : ℕ → ℕ
 packetPlace place = place + 4
 
 -- the offset and the framing code pass
-unfoldable pub lineTaken : List ℕ → ℕ → Bool
-unfolding offsetTaken framingPasses
-lineTaken field place = offsetTaken (offsetAt field place) && framingPasses (framingAt field place)
+unfoldable pub linePasses : List ℕ → ℕ → Bool
+unfolding offsetPasses framingPasses
+linePasses field place = offsetPasses (offsetAt field place) && framingPasses (framingAt field place)
 
 -- the search leaves at a unit
-unfoldable pub taken : List ℕ → ℕ → Bool
-unfolding teletextId lineTaken
-taken field place = teletextId (idAt field place) && lineTaken field place
+unfoldable pub goodTeletext : List ℕ → ℕ → Bool
+unfolding teletextId linePasses
+goodTeletext field place = teletextId (idAt field place) && linePasses field place
 
 -- the packet's place, the field parity, the offset and the place after
 unfoldable pub foundAnswer : List ℕ → ℕ → ℕ → Paper
@@ -52,10 +52,10 @@ foundAnswer field place after = accepted (packetPlace place ∷ parityAt field p
 
 -- at a unit, the search leaves with the packet or goes on after the unit; at the end and at a refusal it leaves with that
 unfoldable pub stepOf : List ℕ → ℕ → Here → Way
-unfolding taken foundAnswer unitAnswer
+unfolding goodTeletext foundAnswer unitAnswer
 stepOf field place the-end = leave (unitAnswer field place the-end)
 stepOf field place (refused number) = leave (unitAnswer field place (refused number))
-stepOf field place a-unit = cond (taken field place) (leave (foundAnswer field place (afterAt field place))) (goOn (afterAt field place))
+stepOf field place a-unit = cond (goodTeletext field place) (leave (foundAnswer field place (afterAt field place))) (goOn (afterAt field place))
 
 unfoldable pub step : List ℕ → ℕ → Way
 unfolding stepOf here

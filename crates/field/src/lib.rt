@@ -5,7 +5,7 @@ ghost use mathlib.Core.Path.{_≡_};
 ghost use Prim.Native.Nat.{_+_, _≤_};
 ghost use lib.ListN.{length};
 ghost use Rattle.field.specs.Field.{low, high, known, noField, lengthAt, teletextId, wrongLength, here, start, unitAnswer, unitAt, anyUnitPaper};
-ghost use Rattle.field.specs.Search.{offsetTaken, lineTaken, step, searched, foundPaper};
+ghost use Rattle.field.specs.Search.{offsetPasses, linePasses, step, searched, foundPaper};
 ghost use Rattle.field.specs.Private.{firstWay, lookWay, lineStep};
 
 // What stands at a place: a whole unit with its id, its length and the place after it, or the end of the field, or a refusal.
@@ -81,8 +81,8 @@ fn is_teletext(id: u8) -> bool
     (id == 0x02) | (id == 0x03)
 }
 
-fn is_taken(offset: u8) -> bool
-    ensures { λ r. ⌜ r ≡ offsetTaken offset ⌝ }
+fn offset_passes(offset: u8) -> bool
+    ensures { λ r. ⌜ r ≡ offsetPasses offset ⌝ }
 {
     (offset == 0) | (offset >= 7) & (offset <= 22)
 }
@@ -135,14 +135,14 @@ fn unit_here(field: &[u8], place: usize) -> AnyUnit
     }
     let id = field[place];
     let length = length_at(field, place);
-    let taken = length as usize + 2;
-    if left < taken {
+    let bytes = length as usize + 2;
+    if left < bytes {
         return AnyUnit::Short(place);
     }
     if is_wrong_length(field[0], id, length) {
         return AnyUnit::WrongLength(place);
     }
-    let after = place + taken;
+    let after = place + bytes;
     AnyUnit::Whole { id, length, after }
 }
 
@@ -160,9 +160,9 @@ pub fn unit_at(field: &[u8], place: usize) -> AnyUnit
 // Whether the offset and the framing code of a whole teletext unit pass.
 fn line_passes(field: &[u8], place: usize) -> bool
     requires { ⌜ place + 46 ≤ length (now field) ⌝ }
-    ensures { λ r. ⌜ r ≡ lineTaken (now (field .entry)) place ⌝ }
+    ensures { λ r. ⌜ r ≡ linePasses (now (field .entry)) place ⌝ }
 {
-    is_taken(field[place + 2] % 32) & coding::framing_passes(field[place + 3])
+    offset_passes(field[place + 2] % 32) & coding::framing_passes(field[place + 3])
 }
 
 // A whole unit of a teletext id: its packet, or the next place where its line does not pass.

@@ -24,11 +24,11 @@ shared-slice-read-id c = search needs
 length-at-requires : tie.Need-length-at-requires
 length-at-requires c κs = search needs
 
-cast-taken : tie.Need-cast-taken
-cast-taken c = search needs
+cast-bytes : tie.Need-cast-bytes
+cast-bytes c = search needs
 
-add-taken : tie.Need-add-taken
-add-taken c = search needs
+add-bytes : tie.Need-add-bytes
+add-bytes c = search needs
 
 returns-2 : tie.Need-returns-2
 unfolding unitAnswer anyUnitPaper
@@ -75,8 +75,8 @@ unit-here-spec =
     returns
     shared-slice-read-id
     length-at-requires
-    cast-taken
-    add-taken
+    cast-bytes
+    add-bytes
     returns-2
     shared-slice-read-is-wrong-length
     is-wrong-length-requires
