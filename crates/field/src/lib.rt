@@ -174,8 +174,9 @@ fn look_at_line(field: &[u8], place: usize, next: usize) -> Look
         return Look::GoOn(next);
     }
     let line = field[place + 2];
+    let packet = place + 4;
     let found = Found::Packet {
-        packet: place + 4,
+        packet,
         parity: line / 32 % 2,
         offset: line % 32,
         after: next,

@@ -19,8 +19,8 @@ add-line c = search needs
 shared-slice-read-line : tie.Need-shared-slice-read-line
 shared-slice-read-line c = search needs
 
-add-t8 : tie.Need-add-t8
-add-t8 c = search needs
+add-packet : tie.Need-add-packet
+add-packet c = search needs
 
 returns-2 : tie.Need-returns-2
 unfolding lookWay lineStep
@@ -29,4 +29,4 @@ returns-2 c = simp (sym (c .before .before .line-passes .ensures) ∙ not-false 
 pub look-at-line-spec : {M : Type 1} → statement M
 look-at-line-spec =
     tie.close
-    (tie.spec line-passes-requires returns add-line shared-slice-read-line add-t8 returns-2)
+    (tie.spec line-passes-requires returns add-line shared-slice-read-line add-packet returns-2)
