@@ -3,15 +3,15 @@ use mathlib.Core.Path.{_≡_, refl, sym, _∙_, ap, subst}
 use mathlib.Core.Logic.{_⊎_, inl, inr}
 use mathlib.Core.Bool.{Bool, true, false, cond, _&&_}
 use mathlib.Core.List.{List, [], _∷_, _++_}
-use Prim.Native.Nat.{ℕ, zero, suc, _+_, _<_, _≤_}
+use Prim.Native.Nat.{ℕ, zero, suc, _+_, _≤_}
 use native.Mathlib.Omega.{arith}
 use lib.ListN.{length, getD}
 use Rattle.laws.specs.Paper.{Paper, accepted}
 use Rattle.coding.specs.Bits.{framingPasses}
-use Rattle.field.specs.Field.{idAt, lengthAt, afterAt, teletextId, noField, Here, the-end, a-unit, refused, here, Way, leave, goOn, asked, start, unitAnswer}
-use Rattle.field.specs.Search.{parityAt, offsetAt, offsetPasses, framingAt, packetPlace, linePasses, goodTeletext, foundAnswer, stepOf, step, Walk, left, onward, walk, walkFrom, walkOn, walked, searched}
+use Rattle.field.specs.Field.{idAt, afterAt, teletextId, noField, Here, the-end, a-unit, refused, here, Way, leave, goOn, asked, start, unitAnswer}
+use Rattle.field.specs.Search.{parityAt, offsetAt, offsetPasses, framingAt, goodTeletext, foundAnswer, stepOf, step, Walk, left, onward, walk, walkFrom, walkOn, walked, searched}
 use Rattle.field.proofs.Units.{Begins, begins, begins-at, starts, asked-behind, start-plain, is-unit, teletext-length}
-use Rattle.field.proofs.Walk.{GoesOn, goes-on, further, search-from}
+use Rattle.field.proofs.Walk.{goes-on, further, search-from}
 
 -- ---- what was passed over
 

@@ -1,12 +1,12 @@
 -- One step of a walk, by what stands at its place.
-use mathlib.Core.Path.{_≡_, refl, sym, _∙_, ap}
+use mathlib.Core.Path.{_≡_, refl, sym, ap}
 use mathlib.Core.Bool.{true, false}
 use mathlib.Core.List.{List, [], _∷_}
 use Prim.Native.Nat.{ℕ, _<_}
 use native.Mathlib.Omega.{arith}
 use lib.ListN.{length, getD}
 use Rattle.laws.specs.Paper.{Paper, accepted}
-use Rattle.field.specs.Field.{idAt, lengthAt, afterAt, teletextId, Here, the-end, a-unit, refused, here, Way, leave, goOn, unitAnswer}
+use Rattle.field.specs.Field.{idAt, afterAt, teletextId, Here, the-end, a-unit, refused, here, leave, goOn, unitAnswer}
 use Rattle.field.specs.Search.{stepOf, step}
 use Rattle.field.specs.Private.{lineStep}
 

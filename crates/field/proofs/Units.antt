@@ -1,14 +1,14 @@
 -- What stands at a place, by the tests: which case of `here` holds, and what each case shows.
-use mathlib.Core.Path.{_≡_, refl, sym, _∙_, ap}
+use mathlib.Core.Path.{_≡_, refl, ap}
 use mathlib.Core.Bool.{Bool, true, false, cond, not, _&&_, _||_}
 use mathlib.Core.List.{List, []}
 use Prim.Native.Nat.{ℕ, zero, suc, _+_, _<_, _≤_}
 use native.Mathlib.Omega.{arith}
 use borrow.Author.Tests.{eq-eqb, ne-eqb, lt-ltb, le-ltb, lt-leb, ltb-false, eqb-true, eqb-false, not-false}
-use lib.Dec.{leb, ltb, eqb}
+use lib.Dec.{eqb}
 use lib.ListN.{length}
 use Rattle.laws.specs.Paper.{Paper, refusedBy}
-use Rattle.field.specs.Field.{identifier, low, high, known, noField, idAt, lengthAt, afterAt, teletextId, short, wrongLength, Here, the-end, a-unit, refused, here, Way, leave, goOn, asked, pastField, start, unitOn, unitAt}
+use Rattle.field.specs.Field.{identifier, low, high, known, noField, idAt, lengthAt, afterAt, teletextId, short, wrongLength, the-end, a-unit, refused, here, Way, leave, goOn, asked, pastField, start, unitOn, unitAt}
 
 -- two tests, of which neither passed
 pub neither : (a b : Bool) → (a || b) ≡ false → (a ≡ false) × (b ≡ false)

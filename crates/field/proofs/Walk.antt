@@ -1,16 +1,14 @@
 -- The walk: its bound is always enough, so that it is what its own equation says; what it passed over; what it found; and where it goes on.
 use mathlib.Core.Path.{_≡_, refl, sym, _∙_, ap}
-use mathlib.Core.Logic.{_⊎_, inl, inr}
-use mathlib.Core.Bool.{Bool, true, false, cond, _&&_}
-use mathlib.Core.List.{List, [], _∷_, _++_}
+use mathlib.Core.Bool.{Bool, true, false, cond}
+use mathlib.Core.List.{List, _∷_}
 use Prim.Native.Nat.{ℕ, zero, suc, _+_, _<_, _≤_}
 use native.Mathlib.Omega.{arith}
-use lib.ListN.{length, getD}
-use Rattle.laws.specs.Paper.{Paper, accepted}
-use Rattle.coding.specs.Bits.{framingPasses}
-use Rattle.field.specs.Field.{idAt, lengthAt, afterAt, teletextId, noField, Here, the-end, a-unit, refused, here, Way, leave, goOn, asked, start, unitAnswer}
-use Rattle.field.specs.Search.{parityAt, offsetAt, offsetPasses, framingAt, packetPlace, linePasses, goodTeletext, foundAnswer, stepOf, step, Walk, left, onward, walk, walkFrom, walkOn, walked, searched}
-use Rattle.field.proofs.Units.{Begins, begins, IsUnit, is-unit, teletext-length}
+use lib.ListN.{length}
+use Rattle.laws.specs.Paper.{Paper}
+use Rattle.field.specs.Field.{afterAt, Here, the-end, a-unit, refused, here, Way, leave, goOn, start}
+use Rattle.field.specs.Search.{goodTeletext, stepOf, step, Walk, left, onward, walk, walkFrom, walkOn, searched}
+use Rattle.field.proofs.Units.{Begins, is-unit}
 
 -- ---- a step that goes on
 

@@ -1,5 +1,5 @@
 -- `field::entry` meets its contract: at each return the tests that led there say which case of `start` holds.
-use mathlib.Core.Path.{_≡_, refl, sym, _∙_}
+use mathlib.Core.Path.{sym, _∙_}
 use borrow.Author.Needs.{needs}
 use borrow.Author.Tests.{eq-eqb, ne-eqb, lt-ltb, le-ltb, not-true, not-false}
 use Rattle.field.specs.Field.{start}

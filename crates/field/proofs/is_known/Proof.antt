@@ -1,5 +1,4 @@
 -- `field::is_known` meets its contract: the code's test is the definition's.
-use mathlib.Core.Path.{refl}
 use borrow.Author.Needs.{needs}
 use Rattle.field.specs.Field.{known}
 use Rattle.field.proofs.is_known.Statement.{statement}

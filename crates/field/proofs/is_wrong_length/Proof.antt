@@ -1,5 +1,4 @@
 -- `field::is_wrong_length` meets its contract: the code's test is the definition's, by what the tests on the identifier and the id promise.
-use mathlib.Core.Path.{refl}
 use borrow.Author.Needs.{needs}
 use Rattle.field.specs.Field.{wrongLength}
 use Rattle.field.proofs.is_wrong_length.Statement.{statement}

@@ -1,5 +1,5 @@
 -- `field::length_at` meets its contract: past its end a list gives 0.
-use mathlib.Core.Path.{_≡_, sym}
+use mathlib.Core.Path.{sym}
 use native.Mathlib.Omega.{arith}
 use denote.Ref.{now}
 use lib.ListN.{List·getD-eq-default}

@@ -1,5 +1,4 @@
 -- `field::line_passes` meets its contract: by what the tests of the offset and of the framing code promise.
-use mathlib.Core.Path.{refl}
 use Rattle.field.specs.Search.{linePasses}
 use borrow.Author.Needs.{needs}
 use Rattle.field.proofs.line_passes.Statement.{statement}

@@ -1,5 +1,5 @@
 -- `field::look_at` meets its contract: by what `unit_here` promises of the place and `look_at_line` of a unit of a teletext id.
-use mathlib.Core.Path.{_≡_, refl, sym, _∙_, ap}
+use mathlib.Core.Path.{_≡_, sym, _∙_, ap}
 use mathlib.Core.Bool.{Bool}
 use mathlib.Core.List.{List}
 use Prim.Native.Nat.{ℕ}

@@ -1,5 +1,5 @@
 -- `field::look_at_line` meets its contract: the line's test decides.
-use mathlib.Core.Path.{refl, sym, _∙_}
+use mathlib.Core.Path.{sym, _∙_}
 use borrow.Author.Tests.{not-true, not-false}
 use Rattle.field.specs.Private.{lookWay, lineStep}
 use borrow.Author.Needs.{needs}

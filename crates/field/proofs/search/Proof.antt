@@ -1,6 +1,6 @@
 -- `field::search` meets its contract. The loop's invariant: the walk from where the loop stands ends as the whole search does.
 -- The measure is what is left of the field.
-use mathlib.Core.Path.{_≡_, refl, sym, _∙_, ap}
+use mathlib.Core.Path.{_≡_, sym, _∙_, ap}
 use Prim.Native.Nat.{_-_}
 use native.Mathlib.Omega.{arith}
 use borrow.Author.Needs.{needs}

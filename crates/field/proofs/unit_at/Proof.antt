@@ -1,5 +1,5 @@
 -- `field::unit_at` meets its contract: by what `entry` promises of the place asked and `unit_here` of the place behind it.
-use mathlib.Core.Path.{_≡_, refl, sym, _∙_, ap}
+use mathlib.Core.Path.{sym, _∙_, ap}
 use borrow.Author.Needs.{needs}
 use Rattle.field.specs.Field.{unitOn, anyUnitPaper}
 use Rattle.field.specs.Private.{firstWay}

@@ -1,5 +1,5 @@
 -- `field::unit_here` meets its contract: at each return the tests that led there say which case of `here` holds.
-use mathlib.Core.Path.{_≡_, refl, sym, _∙_, ap}
+use mathlib.Core.Path.{_≡_, sym, _∙_, ap}
 use Prim.Native.Nat.{_+_}
 use native.Mathlib.Omega.{arith}
 use denote.Ref.{now}
