@@ -2,13 +2,14 @@
 use mathlib.Core.Path.{_≡_, refl, sym, ap}
 use mathlib.Core.Bool.{true, false}
 use mathlib.Core.List.{List, [], _∷_}
-use Prim.Native.Nat.{ℕ, _<_}
+use Prim.Native.Nat.{ℕ, _+_, _<_, _≤_}
 use native.Mathlib.Omega.{arith}
 use lib.ListN.{length, getD}
 use Rattle.laws.specs.Paper.{Paper, accepted}
-use Rattle.field.specs.Field.{idAt, afterAt, teletextId, Here, the-end, a-unit, refused, here, leave, goOn, unitAnswer}
+use Rattle.field.specs.Field.{idAt, afterAt, teletextId, Here, the-end, a-unit, refused, here, Way, leave, goOn, asked, start, unitAnswer, unitOn, unitAt}
 use Rattle.field.specs.Search.{stepOf, step}
 use Rattle.field.specs.Private.{lineStep}
+use Rattle.field.proofs.Units.{is-unit, begins-at, start-plain}
 
 module _ (field : List ℕ) (place : ℕ) where
   leaves-of : (h : Here) (paper : Paper) → paper ≡ unitAnswer field place h → length (paper .values) < 3 → leave paper ≡ stepOf field place h
@@ -52,3 +53,22 @@ module _ (field : List ℕ) (place : ℕ) where
   pub line-decides : here field place ≡ a-unit → teletextId (idAt field place) ≡ true → lineStep field place (afterAt field place) ≡ step field place
   unfolding stepOf lineStep
   line-decides h t = rw (← at-unit h) (simp t)
+
+-- ---- from a place asked
+
+module _ (field : List ℕ) (place id size after : ℕ) where
+  unit-on : (way : Way) → start field place ≡ way → unitOn field way ≡ accepted (id ∷ size ∷ after ∷ []) → (asked place + 2 ≤ after) × (after ≤ length field)
+  unfolding unitOn accepted
+  unit-on (leave answer) s e =
+      absurd (let none = start-plain field place answer s in let three = ap (λ (p : Paper). length (p .values)) e in omega arith)
+  unit-on (goOn first) s e =
+      let told = tells field first (here field first) id size after (sym e) in
+      let fits = is-unit field first (told .stands) .whole in
+      let is = told .after-is in
+      let from = begins-at field place first s in
+      (omega arith, omega arith)
+
+  -- the place after a unit lies two bytes or more further on, and in the field or at its end: who goes from unit to unit comes to the end
+  pub unit-further : unitAt field place ≡ accepted (id ∷ size ∷ after ∷ []) → (asked place + 2 ≤ after) × (after ≤ length field)
+  unfolding unitAt
+  unit-further e = unit-on (start field place) refl e

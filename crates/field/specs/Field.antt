@@ -81,14 +81,9 @@ pub data Way : Type 0 where
   leave : Paper → Way
   goOn : ℕ → Way
 
--- the first unit stands behind the identifier
-unfoldable pub firstUnit : ℕ
-firstUnit = 1
-
--- 0 means the first unit
+-- 0 means the first unit, which stands behind the identifier; any other place is taken as a unit's start, also one inside a unit
 unfoldable pub asked : ℕ → ℕ
-unfolding firstUnit
-asked place = cond (eqb place 0) firstUnit place
+asked place = cond (eqb place 0) 1 place
 
 -- 14, then 17
 unfoldable pub start : List ℕ → ℕ → Way
@@ -96,7 +91,7 @@ unfolding noField pastField asked refusedBy
 start field place =
     cond (noField field) (leave (refusedBy 14 [])) (cond (pastField field place) (leave (refusedBy 17 [])) (goOn (asked place)))
 
--- a unit's id, length and the place after; the end has no value; 15 and 16 carry the unit's place
+-- the answer at a place: a unit's id, its length and the place after; the end has no value; 15 and 16 carry the unit's place
 unfoldable pub unitAnswer : List ℕ → ℕ → Here → Paper
 unfolding accepted refusedBy
 unitAnswer field place the-end = accepted []

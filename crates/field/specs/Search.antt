@@ -11,8 +11,9 @@ use Rattle.field.specs.Field.{Here, the-end, a-unit, refused, here, Way,
 use Rattle.field.specs.declared.Found.{Found}
 use Rattle.field.specs.declared.Found.the-variants.{Packet, NoMore, NoField, PastField, Short, WrongLength}
 
--- ---- a teletext unit: two reserved bits (not examined), a field parity bit, a 5-bit line offset; a framing code; a packet
+-- ---- a teletext unit: its 44 bytes are two reserved bits (not examined), a field parity bit, a 5-bit line offset, a framing code, and a packet
 
+-- the byte of the bits, most significant first
 abbrev pub lineByte : List ℕ → ℕ → ℕ
 lineByte field place = getD field (place + 2) 0
 
@@ -27,18 +28,19 @@ offsetAt field place = lineByte field place % 32
 unfoldable pub offsetPasses : ℕ → Bool
 offsetPasses offset = eqb offset 0 || leb 7 offset && leb offset 22
 
+-- the framing code, as it stands
 abbrev pub framingAt : List ℕ → ℕ → ℕ
 framingAt field place = getD field (place + 3) 0
 
 abbrev pub packetPlace : ℕ → ℕ
 packetPlace place = place + 4
 
--- the offset and the framing code pass
+-- its offset is 0 or 7 to 22, and its framing code is under the same test as a data-line's
 unfoldable pub linePasses : List ℕ → ℕ → Bool
 unfolding offsetPasses framingPasses
 linePasses field place = offsetPasses (offsetAt field place) && framingPasses (framingAt field place)
 
--- the search leaves at a unit
+-- a teletext unit at which the search leaves
 unfoldable pub goodTeletext : List ℕ → ℕ → Bool
 unfolding teletextId linePasses
 goodTeletext field place = teletextId (idAt field place) && linePasses field place
@@ -76,7 +78,8 @@ unfolding left
 onward place (leave answer) rest = left answer
 onward place (goOn after) rest = record { passed = place ∷ rest after .passed; ended = rest after .ended }
 
--- at most so many units are looked at
+-- the walk from a place, with a bound on the units and the end that it looks at. Bounds that are enough give the same walk, and the one
+-- below is enough: so the first line is for no field and place that a search comes to (`proofs/Walk.antt`, `enough` and `walk-on`)
 unfoldable pub walk : ℕ → List ℕ → ℕ → Walk
 unfolding left onward step accepted
 walk zero field place = left (accepted [])
