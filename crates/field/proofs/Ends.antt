@@ -3,10 +3,11 @@ use mathlib.Core.Path.{_≡_, refl, sym, _∙_, ap, subst}
 use mathlib.Core.Logic.{_⊎_, inl, inr}
 use mathlib.Core.Bool.{Bool, true, false, cond, _&&_}
 use mathlib.Core.List.{List, [], _∷_, _++_}
-use Prim.Native.Nat.{ℕ, zero, suc, _+_, _≤_}
+use mathlib.Core.Option.{some}
+use Prim.Native.Nat.{ℕ, zero, suc, _+_, _<_, _≤_}
 use native.Mathlib.Omega.{arith}
 use lib.ListN.{length, getD}
-use Rattle.laws.specs.Paper.{Paper, accepted}
+use Rattle.laws.specs.Paper.{Paper, accepted, refusedBy}
 use Rattle.coding.specs.Bits.{framingPasses}
 use Rattle.field.specs.Field.{idAt, afterAt, teletextId, noField, Here, the-end, a-unit, refused, here, Way, leave, goOn, asked, start, unitAnswer}
 use Rattle.field.specs.Search.{parityAt, offsetAt, offsetPasses, framingAt, goodTeletext, foundAnswer, stepOf, step, Walk, left, onward, walk, walkFrom, walkOn, walked, searched}
@@ -70,30 +71,92 @@ pub passed-over : (field : List ℕ) (place : ℕ) → Each (PassedOver field) (
 unfolding walked
 passed-over field place = passed-on field (start field place)
 
--- ---- what was found
+-- ---- where a walk ends
 
 -- from a place, unit by unit over some places, to the last: each place is the one after the unit before it
 abbrev pub Chain : List ℕ → ℕ → List ℕ → ℕ → Type 0
 Chain field from [] last = from ≡ last
 Chain field from (place ∷ places) last = (from ≡ place) × Chain field (afterAt field place) places last
 
-pub record FoundAt (field : List ℕ) (from : ℕ) (passed : List ℕ) (packet parity offset after : ℕ) : Type 0 where
-  -- the place of the unit that was found
-  pub unit-place : ℕ
+-- the walk leaves at a place that it came to unit by unit, with what is made of that place
+pub record EndsAt (field : List ℕ) (from : ℕ) (walk-is : Walk) : Type 0 where
+  pub last : ℕ
   -- no unit between was left out, and none before `from` was looked at
-  pub reached : Chain field from passed unit-place
-  pub not-before : from ≤ unit-place
-  -- a whole teletext unit whose offset and framing code pass
-  pub identified : noField field ≡ false
-  pub stands : here field unit-place ≡ a-unit
-  pub is-good : goodTeletext field unit-place ≡ true
-  pub packet-is : packet ≡ unit-place + 4
-  pub parity-is : parity ≡ parityAt field unit-place
-  pub offset-is : offset ≡ offsetAt field unit-place
-  pub after-is : after ≡ afterAt field unit-place
+  pub reached : Chain field from (walk-is .passed) last
+  pub not-before : from ≤ last
+  pub within : last ≤ length field
+  pub left-with : step field last ≡ leave (walk-is .ended)
+
+ends-of : (field : List ℕ) (place : ℕ) (way : Way) (rest : ℕ → Walk) → place ≤ length field → step field place ≡ way
+    → ((next : ℕ) → step field place ≡ goOn next → EndsAt field next (rest next)) → EndsAt field place (onward place way rest)
+unfolding onward left
+ends-of field place (leave answer) rest inside s each =
+    record { last = place; reached = refl; not-before = omega arith; within = inside; left-with = s }
+ends-of field place (goOn next) rest inside s each =
+    let end = each next s in
+    let far = further field place next s .0 in
+    let later = end .not-before in
+    record {
+      last = end .last;
+      reached = (refl, subst (λ (at : ℕ). Chain field at (rest next .passed) (end .last)) (sym (goes-on field place next s .after-is)) (end .reached));
+      not-before = omega arith;
+      within = end .within;
+      left-with = end .left-with;
+    }
+
+pub ends-in : (bound : ℕ) (field : List ℕ) (place : ℕ) → place ≤ length field → length field < place + bound → EndsAt field place (walk bound field place)
+unfolding walk
+ends-in zero field place inside room = absurd (omega arith)
+ends-in (suc bound) field place inside room =
+    ends-of field place (step field place) (walk bound field) inside refl
+    (λ next s.
+    let far = further field place next s in
+    ends-in bound field next (far .1) (omega arith))
+
+-- a search that 14 and 17 do not refuse
+ends-on : (field : List ℕ) (place : ℕ) (way : Way) → start field place ≡ way → (0 < length (walkOn field way .ended .values)) → EndsAt field (asked place) (walkOn field way)
+unfolding walkOn walkFrom left
+ends-on field place (leave answer) s valued = absurd (let none = start-plain field place answer s in omega arith)
+ends-on field place (goOn first) s valued =
+    let begin = begins field place first s in
+    let behind = begin .behind in
+    subst (λ (from : ℕ). EndsAt field from (walkFrom field first)) (sym (begins-at field place first s))
+    (ends-in (length field) field first (begin .within) (omega arith))
+
+pub ends : (field : List ℕ) (place : ℕ) → 0 < length (searched field place .values) → EndsAt field (asked place) (walked field place)
+unfolding searched walked
+ends field place valued = ends-on field place (start field place) refl valued
+
+known-on : (field : List ℕ) (place : ℕ) (way : Way) → start field place ≡ way → (0 < length (walkOn field way .ended .values)) → noField field ≡ false
+unfolding walkOn left
+known-on field place (leave answer) s valued = absurd (let none = start-plain field place answer s in omega arith)
+known-on field place (goOn first) s valued = begins field place first s .identified
+
+identified-is : (field : List ℕ) (place : ℕ) → 0 < length (searched field place .values) → noField field ≡ false
+unfolding searched walked
+identified-is field place valued = known-on field place (start field place) refl valued
+
+same-answer : (a b : Paper) → leave a ≡ leave b → a ≡ b
+same-answer a b e = cc
+
+-- ---- what was found
+
+-- a whole teletext unit whose offset and framing code pass, and the answer that it gives
+pub record IsFound (field : List ℕ) (place packet parity offset after : ℕ) : Type 0 where
+  pub stands : here field place ≡ a-unit
+  pub is-good : goodTeletext field place ≡ true
+  pub packet-is : packet ≡ place + 4
+  pub parity-is : parity ≡ parityAt field place
+  pub offset-is : offset ≡ offsetAt field place
+  pub after-is : after ≡ afterAt field place
   -- the unit has 44 bytes, and its packet lies in the field
-  pub after-46 : after ≡ unit-place + 46
+  pub after-46 : after ≡ place + 46
   pub inside : packet + 42 ≤ length field
+
+pub record FoundFrom (field : List ℕ) (asked-for packet parity offset after : ℕ) : Type 0 where
+  pub identified : noField field ≡ false
+  pub end : EndsAt field (asked asked-for) (walked field asked-for)
+  pub is : IsFound field (end .last) packet parity offset after
 
 abbrev pub four : ℕ → ℕ → ℕ → ℕ → Paper
 four packet parity offset after = accepted (packet ∷ parity ∷ offset ∷ after ∷ [])
@@ -106,21 +169,17 @@ teletext-of : (field : List ℕ) (place : ℕ) → goodTeletext field place ≡ 
 unfolding goodTeletext
 teletext-of field place e = both-hold _ _ e
 
-module _ (field : List ℕ) (known-is : noField field ≡ false) (packet parity offset after : ℕ) where
-  at-good : (place : ℕ) → here field place ≡ a-unit → goodTeletext field place ≡ true → foundAnswer field place (afterAt field place) ≡ four packet parity offset after
-      → FoundAt field place [] packet parity offset after
+module _ (field : List ℕ) (place packet parity offset after : ℕ) (known-is : noField field ≡ false) where
+  at-good : here field place ≡ a-unit → goodTeletext field place ≡ true → foundAnswer field place (afterAt field place) ≡ four packet parity offset after
+      → IsFound field place packet parity offset after
   unfolding foundAnswer accepted
-  at-good place h t e =
+  at-good h t e =
       let is = is-unit field place h in
       let long = teletext-length field place known-is is (teletext-of field place t) in
       let p : packet ≡ place + 4 = sym (ap (λ (paper : Paper). getD (paper .values) 0 0) e) in
       let q : after ≡ afterAt field place = sym (ap (λ (paper : Paper). getD (paper .values) 3 0) e) in
       let fits = is .whole in
       record {
-        unit-place = place;
-        reached = refl;
-        not-before = omega arith;
-        identified = known-is;
         stands = h;
         is-good = t;
         packet-is = p;
@@ -131,79 +190,73 @@ module _ (field : List ℕ) (known-is : noField field ≡ false) (packet parity 
         inside = omega arith;
       }
 
-  at-unit : (place : ℕ) (t : Bool) → here field place ≡ a-unit → goodTeletext field place ≡ t
+  at-unit : (t : Bool) → here field place ≡ a-unit → goodTeletext field place ≡ t
       → cond t (leave (foundAnswer field place (afterAt field place))) (goOn (afterAt field place)) ≡ leave (four packet parity offset after)
-      → FoundAt field place [] packet parity offset after
-  at-unit place true h t e = at-good place h t (cc)
-  at-unit place false h t e = absurd (let z : _≡_ {A = ℕ} 0 1 = cc in omega arith)
+      → IsFound field place packet parity offset after
+  at-unit true h t e = at-good h t (same-answer _ _ e)
+  at-unit false h t e = absurd (let z : _≡_ {A = ℕ} 0 1 = cc in omega arith)
 
   -- an answer of four values is no other answer
   four-values : (paper : Paper) → leave paper ≡ leave (four packet parity offset after) → length (paper .values) ≡ 4
   unfolding accepted
-  four-values paper e =
-      let same : paper ≡ four packet parity offset after = cc in
-      ap (λ (p : Paper). length (p .values)) same
+  four-values paper e = ap (λ (p : Paper). length (p .values)) (same-answer paper (four packet parity offset after) e)
 
-  leave-of : (place : ℕ) (h : Here) → here field place ≡ h → stepOf field place h ≡ leave (four packet parity offset after)
-      → FoundAt field place [] packet parity offset after
+  leave-of : (h : Here) → here field place ≡ h → stepOf field place h ≡ leave (four packet parity offset after) → IsFound field place packet parity offset after
   unfolding stepOf unitAnswer accepted
-  leave-of place the-end h e = absurd (let n = four-values _ e in omega arith)
-  leave-of place (refused number) h e = absurd (let n = four-values _ e in omega arith)
-  leave-of place a-unit h e = at-unit place (goodTeletext field place) h refl e
+  leave-of the-end h e = absurd (let n = four-values _ e in omega arith)
+  leave-of (refused number) h e = absurd (let n = four-values _ e in omega arith)
+  leave-of a-unit h e = at-unit (goodTeletext field place) h refl e
 
-  left-at : (place : ℕ) → step field place ≡ leave (four packet parity offset after) → FoundAt field place [] packet parity offset after
+  found-at : step field place ≡ leave (four packet parity offset after) → IsFound field place packet parity offset after
   unfolding step
-  left-at place e = leave-of place (here field place) refl e
+  found-at e = leave-of (here field place) refl e
 
-  -- a unit that is passed over goes before
-  before : (place next : ℕ) (passed : List ℕ) → step field place ≡ goOn next → FoundAt field next passed packet parity offset after
-      → FoundAt field place (place ∷ passed) packet parity offset after
-  before place next passed s found =
-      let on = goes-on field place next s in
-      let far = further field place next s .0 in
-      let later = found .not-before in
-      record {
-        unit-place = found .unit-place;
-        reached = (refl, subst (λ (at : ℕ). Chain field at passed (found .unit-place)) (sym (on .after-is)) (found .reached));
-        not-before = omega arith;
-        identified = known-is;
-        stands = found .stands;
-        is-good = found .is-good;
-        packet-is = found .packet-is;
-        parity-is = found .parity-is;
-        offset-is = found .offset-is;
-        after-is = found .after-is;
-        after-46 = found .after-46;
-        inside = found .inside;
-      }
+-- what a search found lies in the field, and is the first that it could find
+pub found : (field : List ℕ) (place packet parity offset after : ℕ) → searched field place ≡ four packet parity offset after
+    → FoundFrom field place packet parity offset after
+unfolding searched accepted
+found field place packet parity offset after e =
+    let valued : 0 < length (searched field place .values) = omega (arith, ap (λ (p : Paper). length (p .values)) e) in
+    let end = ends field place valued in
+    let known-is = identified-is field place valued in
+    record {
+      identified = known-is;
+      end = end;
+      is = found-at field (end .last) packet parity offset after known-is (end .left-with ∙ ap leave e);
+    }
 
-  abbrev Ended : ℕ → Walk → Type 0
-  Ended place w = w .ended ≡ four packet parity offset after → FoundAt field place (w .passed) packet parity offset after
+-- ---- what was refused at a unit
 
-  ended-of : (place : ℕ) (way : Way) (rest : ℕ → Walk) → step field place ≡ way → ((next : ℕ) → Ended next (rest next)) → Ended place (onward place way rest)
-  unfolding onward left
-  ended-of place (leave answer) rest s each e = left-at place (s ∙ ap leave e)
-  ended-of place (goOn next) rest s each e = before place next (rest next .passed) s (each next e)
+not-one : (t : Bool) (paper answer : Paper) (x : ℕ) → cond t (leave paper) (goOn x) ≡ leave answer → length (paper .values) ≡ length (answer .values)
+not-one true paper answer x e = ap (λ (p : Paper). length (p .values)) (same-answer paper answer e)
+not-one false paper answer x e = absurd (let z : _≡_ {A = ℕ} 0 1 = cc in omega arith)
 
-  ended-in : (bound : ℕ) (place : ℕ) → Ended place (walk bound field place)
-  unfolding walk left
-  ended-in zero place e = absurd (let n = four-values _ (ap leave e) in omega arith)
-  ended-in (suc bound) place e = ended-of place (step field place) (walk bound field) refl (ended-in bound) e
+refused-of : (field : List ℕ) (place : ℕ) (h : Here) (number at : ℕ) → stepOf field place h ≡ leave (refusedBy number (at ∷ [])) → (h ≡ refused number) × (place ≡ at)
+unfolding stepOf unitAnswer foundAnswer accepted refusedBy
+refused-of field place the-end number at e =
+    absurd (let n = ap (λ (p : Paper). length (p .values)) (same-answer _ _ e) in omega arith)
+refused-of field place (refused n) number at e =
+    let same = same-answer _ _ e in
+    let numbers : some n ≡ some number = ap (λ (p : Paper). p .number) same in
+    (cc, ap (λ (p : Paper). getD (p .values) 0 0) same)
+refused-of field place a-unit number at e = absurd (let n = not-one (goodTeletext field place) _ _ _ e in omega arith)
 
-module _ (field : List ℕ) (place packet parity offset after : ℕ) where
-  found-on : (way : Way) → start field place ≡ way → walkOn field way .ended ≡ four packet parity offset after
-      → FoundAt field (asked place) (walkOn field way .passed) packet parity offset after
-  unfolding walkOn walkFrom left accepted
-  found-on (leave answer) s e =
-      absurd (let n = start-plain field place answer s in let m = ap (λ (p : Paper). length (p .values)) e in omega arith)
-  found-on (goOn first) s e =
-      subst (λ (from : ℕ). FoundAt field from (walkFrom field first .passed) packet parity offset after) (sym (begins-at field place first s))
-      (ended-in field (begins field place first s .identified) packet parity offset after (length field) first e)
+refused-here : (field : List ℕ) (place number at : ℕ) → step field place ≡ leave (refusedBy number (at ∷ [])) → (here field place ≡ refused number) × (place ≡ at)
+unfolding step
+refused-here field place number at e = refused-of field place (here field place) number at e
 
-  -- what a search found lies in the field, and is the first that it could find
-  pub found : searched field place ≡ four packet parity offset after → FoundAt field (asked place) (walked field place .passed) packet parity offset after
-  unfolding searched walked
-  found e = found-on (start field place) refl e
+pub record RefusedFrom (field : List ℕ) (asked-for number at : ℕ) : Type 0 where
+  pub end : EndsAt field (asked asked-for) (walked field asked-for)
+  pub at-is : end .last ≡ at
+  pub refused-is : here field (end .last) ≡ refused number
+
+-- a refusal with a place is that of the unit to which the walk came, and its place is counted from the field's start
+pub refused-at : (field : List ℕ) (place number at : ℕ) → searched field place ≡ refusedBy number (at ∷ []) → RefusedFrom field place number at
+unfolding searched refusedBy
+refused-at field place number at e =
+    let end = ends field place (omega (arith, ap (λ (p : Paper). length (p .values)) e)) in
+    let both = refused-here field (end .last) number at (end .left-with ∙ ap leave e) in
+    record { end = end; at-is = both .1; refused-is = both .0 }
 
 -- ---- searching again
 
@@ -213,12 +266,12 @@ joined : (field : List ℕ) (from : ℕ) (passed : List ℕ) (middle : ℕ) (lat
 joined field from [] middle later last c d = (c, d)
 joined field from (place ∷ places) middle later last c d = (c .0, joined field (afterAt field place) places middle later last (c .1) d)
 
-module _ (field : List ℕ) (from : ℕ) (passed : List ℕ) (packet parity offset after : ℕ) (first : FoundAt field from passed packet parity offset after) where
+module _ (field : List ℕ) (place packet parity offset after : ℕ) (first : FoundFrom field place packet parity offset after) where
   begins-after : Begins field after
   begins-after =
-      let far = first .after-46 in
-      let there = first .packet-is in
-      let fits = first .inside in
+      let far = first .is .after-46 in
+      let there = first .is .packet-is in
+      let fits = first .is .inside in
       record { identified = first .identified; behind = omega arith; within = omega arith }
 
   -- the search from the place after is the walk from that place
@@ -226,15 +279,13 @@ module _ (field : List ℕ) (from : ℕ) (passed : List ℕ) (packet parity offs
   unfolding walkOn
   search-after = sym (search-from field after (sym (starts field after begins-after)))
 
-  -- what it finds lies behind what was found, and the two searches are one chain of units
-  pub search-again : (packet′ parity′ offset′ after′ : ℕ) (second : searched field after ≡ four packet′ parity′ offset′ after′)
-      → (after ≤ found field after packet′ parity′ offset′ after′ second .unit-place)
-      × Chain field from (passed ++ (first .unit-place ∷ walked field after .passed)) (found field after packet′ parity′ offset′ after′ second .unit-place)
-  search-again packet′ parity′ offset′ after′ second =
-      let next = found field after packet′ parity′ offset′ after′ second in
+  -- where it ends at a unit, that unit lies behind what was found, and the two searches are one chain of units
+  pub search-again : (second : EndsAt field (asked after) (walked field after))
+      → (after ≤ second .last)
+      × Chain field (asked place) (walked field place .passed ++ (first .end .last ∷ walked field after .passed)) (second .last)
+  search-again second =
       let same = asked-behind after (begins-after .behind) in
-      let later = next .not-before in (
-        omega arith,
-        joined field from passed (first .unit-place) (walked field after .passed) (next .unit-place) (first .reached)
-            (subst (λ (at : ℕ). Chain field at (walked field after .passed) (next .unit-place)) (same ∙ first .after-is) (next .reached)),
-      )
+      let later = second .not-before in
+      (omega arith,
+      joined field (asked place) (walked field place .passed) (first .end .last) (walked field after .passed) (second .last) (first .end .reached)
+      (subst (λ (at : ℕ). Chain field at (walked field after .passed) (second .last)) (same ∙ first .is .after-is) (second .reached)))
