@@ -11,7 +11,7 @@ use Rattle.laws.specs.Paper.{Paper, accepted, refusedBy}
 use Rattle.coding.specs.Bits.{framingPasses}
 use Rattle.field.specs.Field.{idAt, afterAt, teletextId, noField, Here, the-end, a-unit, refused, here, Way, leave, goOn, asked, start, unitAnswer}
 use Rattle.field.specs.Search.{parityAt, offsetAt, offsetPasses, framingAt, goodTeletext, foundAnswer, stepOf, step, Walk, left, onward, walk, walkFrom, walkOn, walked, searched}
-use Rattle.field.proofs.Units.{Begins, begins, begins-at, starts, asked-behind, start-plain, is-unit, teletext-length}
+use Rattle.field.proofs.Units.{Begins, begins, begins-at, starts, asked-behind, Refused-first, start-refused, valued-goes, accepted-goes, is-end, is-unit, teletext-length}
 use Rattle.field.proofs.Walk.{goes-on, further, search-from}
 
 -- ---- what was passed over
@@ -113,28 +113,22 @@ ends-in (suc bound) field place inside room =
     let far = further field place next s in
     ends-in bound field next (far .1) (omega arith))
 
--- a search that 14 and 17 do not refuse
-ends-on : (field : List ℕ) (place : ℕ) (way : Way) → start field place ≡ way → (0 < length (walkOn field way .ended .values)) → EndsAt field (asked place) (walkOn field way)
+-- a search that 14 and 17 do not refuse ends at a place
+ends-on : (field : List ℕ) (place : ℕ) (way : Way) → start field place ≡ way → (Refused-first (walkOn field way .ended) → ⊥)
+    → (noField field ≡ false) × EndsAt field (asked place) (walkOn field way)
 unfolding walkOn walkFrom left
-ends-on field place (leave answer) s valued = absurd (let none = start-plain field place answer s in omega arith)
-ends-on field place (goOn first) s valued =
+ends-on field place (leave answer) s goes = absurd (goes (start-refused field place answer s))
+ends-on field place (goOn first) s goes =
     let begin = begins field place first s in
-    let behind = begin .behind in
-    subst (λ (from : ℕ). EndsAt field from (walkFrom field first)) (sym (begins-at field place first s))
-    (ends-in (length field) field first (begin .within) (omega arith))
+    let behind = begin .behind in (
+      begin .identified,
+      subst (λ (from : ℕ). EndsAt field from (walkFrom field first)) (sym (begins-at field place first s))
+          (ends-in (length field) field first (begin .within) (omega arith)),
+    )
 
-pub ends : (field : List ℕ) (place : ℕ) → 0 < length (searched field place .values) → EndsAt field (asked place) (walked field place)
+pub ends : (field : List ℕ) (place : ℕ) → (Refused-first (searched field place) → ⊥) → (noField field ≡ false) × EndsAt field (asked place) (walked field place)
 unfolding searched walked
-ends field place valued = ends-on field place (start field place) refl valued
-
-known-on : (field : List ℕ) (place : ℕ) (way : Way) → start field place ≡ way → (0 < length (walkOn field way .ended .values)) → noField field ≡ false
-unfolding walkOn left
-known-on field place (leave answer) s valued = absurd (let none = start-plain field place answer s in omega arith)
-known-on field place (goOn first) s valued = begins field place first s .identified
-
-identified-is : (field : List ℕ) (place : ℕ) → 0 < length (searched field place .values) → noField field ≡ false
-unfolding searched walked
-identified-is field place valued = known-on field place (start field place) refl valued
+ends field place goes = ends-on field place (start field place) refl goes
 
 same-answer : (a b : Paper) → leave a ≡ leave b → a ≡ b
 same-answer a b e = cc
@@ -216,9 +210,7 @@ pub found : (field : List ℕ) (place packet parity offset after : ℕ) → sear
     → FoundFrom field place packet parity offset after
 unfolding searched accepted
 found field place packet parity offset after e =
-    let valued : 0 < length (searched field place .values) = omega (arith, ap (λ (p : Paper). length (p .values)) e) in
-    let end = ends field place valued in
-    let known-is = identified-is field place valued in
+    let (known-is, end) = ends field place (valued-goes _ (omega (arith, ap (λ (p : Paper). length (p .values)) e))) in
     record {
       identified = known-is;
       end = end;
@@ -254,9 +246,32 @@ pub record RefusedFrom (field : List ℕ) (asked-for number at : ℕ) : Type 0 w
 pub refused-at : (field : List ℕ) (place number at : ℕ) → searched field place ≡ refusedBy number (at ∷ []) → RefusedFrom field place number at
 unfolding searched refusedBy
 refused-at field place number at e =
-    let end = ends field place (omega (arith, ap (λ (p : Paper). length (p .values)) e)) in
+    let end = ends field place (valued-goes _ (omega (arith, ap (λ (p : Paper). length (p .values)) e))) .1 in
     let both = refused-here field (end .last) number at (end .left-with ∙ ap leave e) in
     record { end = end; at-is = both .1; refused-is = both .0 }
+
+-- ---- no more
+
+no-more-of : (field : List ℕ) (place : ℕ) (h : Here) → stepOf field place h ≡ leave (accepted []) → h ≡ the-end
+unfolding stepOf unitAnswer foundAnswer accepted refusedBy
+no-more-of field place the-end e = refl
+no-more-of field place (refused n) e = absurd (let m = ap (λ (p : Paper). length (p .values)) (same-answer _ _ e) in omega arith)
+no-more-of field place a-unit e = absurd (let m = not-one (goodTeletext field place) _ _ _ e in omega arith)
+
+no-more-here : (field : List ℕ) (place : ℕ) → step field place ≡ leave (accepted []) → here field place ≡ the-end
+unfolding step
+no-more-here field place e = no-more-of field place (here field place) e
+
+pub record NoMoreFrom (field : List ℕ) (asked-for : ℕ) : Type 0 where
+  pub end : EndsAt field (asked asked-for) (walked field asked-for)
+  pub whole-field : end .last ≡ length field
+
+-- "no more" is said only where the walk came to the field's end
+pub no-more : (field : List ℕ) (place : ℕ) → searched field place ≡ accepted [] → NoMoreFrom field place
+unfolding searched
+no-more field place e =
+    let end = ends field place (λ r. accepted-goes [] (subst Refused-first e r)) .1 in
+    record { end = end; whole-field = is-end field (end .last) (no-more-here field (end .last) (end .left-with ∙ ap leave e)) }
 
 -- ---- searching again
 
@@ -285,7 +300,8 @@ module _ (field : List ℕ) (place packet parity offset after : ℕ) (first : Fo
       × Chain field (asked place) (walked field place .passed ++ (first .end .last ∷ walked field after .passed)) (second .last)
   search-again second =
       let same = asked-behind after (begins-after .behind) in
-      let later = second .not-before in
-      (omega arith,
-      joined field (asked place) (walked field place .passed) (first .end .last) (walked field after .passed) (second .last) (first .end .reached)
-      (subst (λ (at : ℕ). Chain field at (walked field after .passed) (second .last)) (same ∙ first .is .after-is) (second .reached)))
+      let later = second .not-before in (
+        omega arith,
+        joined field (asked place) (walked field place .passed) (first .end .last) (walked field after .passed) (second .last) (first .end .reached)
+            (subst (λ (at : ℕ). Chain field at (walked field after .passed) (second .last)) (same ∙ first .is .after-is) (second .reached)),
+      )

@@ -1,13 +1,15 @@
 -- What stands at a place, by the tests: which case of `here` holds, and what each case shows.
-use mathlib.Core.Path.{_≡_, refl, ap}
+use mathlib.Core.Path.{_≡_, refl, sym, ap}
+use mathlib.Core.Logic.{_⊎_, inl, inr}
 use mathlib.Core.Bool.{Bool, true, false, cond, not, _&&_, _||_}
 use mathlib.Core.List.{List, []}
+use mathlib.Core.Option.{Option, none, some}
 use Prim.Native.Nat.{ℕ, zero, suc, _+_, _<_, _≤_}
 use native.Mathlib.Omega.{arith}
 use borrow.Author.Tests.{eq-eqb, ne-eqb, lt-ltb, le-ltb, lt-leb, ltb-false, eqb-true, eqb-false, not-false}
 use lib.Dec.{eqb}
 use lib.ListN.{length}
-use Rattle.laws.specs.Paper.{Paper, refusedBy}
+use Rattle.laws.specs.Paper.{Paper, accepted, refusedBy}
 use Rattle.field.specs.Field.{identifier, low, high, known, noField, idAt, lengthAt, afterAt, teletextId, short, wrongLength, the-end, a-unit, refused, here, Way, leave, goOn, asked, pastField, start, unitOn, unitAt}
 
 -- two tests, of which neither passed
@@ -55,13 +57,13 @@ on-goes false false p q x first e = (refl, refl, cc)
 not-empty : (field : List ℕ) → noField field ≡ false → 0 < length field
 unfolding noField
 not-empty field e =
-    let some = eqb-false (length field) 0 (neither (eqb (length field) 0) (not (known (identifier field))) e .0) in
+    let positive = eqb-false (length field) 0 (neither (eqb (length field) 0) (not (known (identifier field))) e .0) in
     omega arith
 
 asked-inside : (place bound : ℕ) → 0 < bound → place ≤ bound → (0 < asked place) × (asked place ≤ bound)
 unfolding asked
-asked-inside zero bound some inside = (omega arith, omega arith)
-asked-inside (suc place) bound some inside = rw (ne-eqb (suc place) 0 (λ e. omega arith)) (omega arith, omega arith)
+asked-inside zero bound positive inside = (omega arith, omega arith)
+asked-inside (suc place) bound positive inside = rw (ne-eqb (suc place) 0 (λ e. omega arith)) (omega arith, omega arith)
 
 -- where a walk starts
 pub record Begins (field : List ℕ) (first : ℕ) : Type 0 where
@@ -103,17 +105,40 @@ starts field place begin =
     picks (noField field) (pastField field place) _ _ (asked place) place
     (begin .identified) (not-past-field field place (begin .within)) (asked-behind place (begin .behind))
 
-left-plain : (a b : Bool) (n m x : ℕ) (answer : Paper) → cond a (leave (refusedBy n [])) (cond b (leave (refusedBy m [])) (goOn x)) ≡ leave answer
-    → length (answer .values) ≡ 0
-unfolding refusedBy
-left-plain true b n m x answer e = cc
-left-plain false true n m x answer e = cc
-left-plain false false n m x answer e = absurd (let z : _≡_ {A = ℕ} 0 1 = cc in omega arith)
+-- a search that does not start is refused by 14 or by 17
+abbrev pub Refused-first : Paper → Type 0
+Refused-first answer = (refusedBy 14 [] ≡ answer) ⊎ (refusedBy 17 [] ≡ answer)
+
+left-first : (a b : Bool) (p q : Paper) (x : ℕ) (answer : Paper) → cond a (leave p) (cond b (leave q) (goOn x)) ≡ leave answer → (p ≡ answer) ⊎ (q ≡ answer)
+left-first true b p q x answer e = inl (cc)
+left-first false true p q x answer e = inr (cc)
+left-first false false p q x answer e = absurd (let z : _≡_ {A = ℕ} 0 1 = cc in omega arith)
+
+pub start-refused : (field : List ℕ) (place : ℕ) (answer : Paper) → start field place ≡ leave answer → Refused-first answer
+unfolding start
+start-refused field place answer e = left-first (noField field) (pastField field place) (refusedBy 14 []) (refusedBy 17 []) (asked place) answer e
 
 -- 14 and 17 have no value
+no-value : (answer : Paper) → Refused-first answer → length (answer .values) ≡ 0
+unfolding refusedBy
+no-value answer (inl e) = sym (ap (λ (p : Paper). length (p .values)) e)
+no-value answer (inr e) = sym (ap (λ (p : Paper). length (p .values)) e)
+
 pub start-plain : (field : List ℕ) (place : ℕ) (answer : Paper) → start field place ≡ leave answer → length (answer .values) ≡ 0
-unfolding start
-start-plain field place answer e = left-plain (noField field) (pastField field place) 14 17 (asked place) answer e
+start-plain field place answer e = no-value answer (start-refused field place answer e)
+
+pub valued-goes : (answer : Paper) → 0 < length (answer .values) → Refused-first answer → ⊥
+valued-goes answer valued r = let none = no-value answer r in omega arith
+
+-- nor are they accepted
+numbered : Option ℕ → ℕ
+numbered none = 0
+numbered (some n) = n
+
+pub accepted-goes : (values : List ℕ) → Refused-first (accepted values) → ⊥
+unfolding refusedBy accepted numbered
+accepted-goes values (inl e) = let n : _≡_ {A = ℕ} 14 0 = ap (λ (p : Paper). numbered (p .number)) e in omega arith
+accepted-goes values (inr e) = let n : _≡_ {A = ℕ} 17 0 = ap (λ (p : Paper). numbered (p .number)) e in omega arith
 
 -- ---- what a unit shows
 
@@ -127,6 +152,18 @@ here-picks true s w q = absurd (let z : _≡_ {A = ℕ} 0 1 = cc in omega arith)
 here-picks false true w q = absurd (let z : _≡_ {A = ℕ} 0 1 = cc in omega arith)
 here-picks false false true q = absurd (let z : _≡_ {A = ℕ} 0 1 = cc in omega arith)
 here-picks false false false q = (refl, refl)
+
+end-picks : (e s w : Bool) → cond e the-end (cond s (refused 15) (cond w (refused 16) a-unit)) ≡ the-end → e ≡ true
+end-picks true s w q = refl
+end-picks false true w q = absurd (let z : _≡_ {A = ℕ} 0 1 = cc in omega arith)
+end-picks false false true q = absurd (let z : _≡_ {A = ℕ} 0 1 = cc in omega arith)
+end-picks false false false q = absurd (let z : _≡_ {A = ℕ} 0 1 = cc in omega arith)
+
+pub is-end : (field : List ℕ) (place : ℕ) → here field place ≡ the-end → place ≡ length field
+unfolding here
+is-end field place e =
+    eqb-true place (length field)
+    (end-picks (eqb place (length field)) (short field place) (wrongLength (identifier field) (idAt field place) (lengthAt field place)) e)
 
 not-past : (field : List ℕ) (place : ℕ) → short field place ≡ false → afterAt field place ≤ length field
 unfolding short
