@@ -11,7 +11,7 @@ use Rattle.laws.specs.Paper.{Paper, accepted, refusedBy}
 use Rattle.coding.specs.Bits.{framingPasses}
 use Rattle.field.specs.Field.{idAt, afterAt, teletextId, noField, Here, the-end, a-unit, refused, here, Way, leave, goOn, asked, start, unitAnswer}
 use Rattle.field.specs.Search.{parityAt, offsetAt, offsetPasses, framingAt, goodTeletext, foundAnswer, stepOf, step, Walk, left, onward, walk, walkFrom, walkOn, walked, searched}
-use Rattle.field.proofs.Units.{Begins, begins, begins-at, starts, asked-behind, Refused-first, start-refused, valued-goes, accepted-goes, is-end, is-unit, teletext-length}
+use Rattle.field.proofs.Units.{never, counts, Begins, begins, begins-at, starts, asked-behind, Refused-first, start-refused, valued-goes, accepted-goes, is-end, is-unit, teletext-length}
 use Rattle.field.proofs.Walk.{goes-on, further, search-from}
 
 -- ---- what was passed over
@@ -188,12 +188,12 @@ module _ (field : List ℕ) (place packet parity offset after : ℕ) (known-is :
       → cond t (leave (foundAnswer field place (afterAt field place))) (goOn (afterAt field place)) ≡ leave (four packet parity offset after)
       → IsFound field place packet parity offset after
   at-unit true h t e = at-good h t (same-answer _ _ e)
-  at-unit false h t e = absurd (let z : _≡_ {A = ℕ} 0 1 = cc in omega arith)
+  at-unit false h t e = absurd (never (cc))
 
   -- an answer of four values is no other answer
   four-values : (paper : Paper) → leave paper ≡ leave (four packet parity offset after) → length (paper .values) ≡ 4
   unfolding accepted
-  four-values paper e = ap (λ (p : Paper). length (p .values)) (same-answer paper (four packet parity offset after) e)
+  four-values paper e = counts (same-answer paper (four packet parity offset after) e)
 
   leave-of : (h : Here) → here field place ≡ h → stepOf field place h ≡ leave (four packet parity offset after) → IsFound field place packet parity offset after
   unfolding stepOf unitAnswer accepted
@@ -210,7 +210,7 @@ pub found : (field : List ℕ) (place packet parity offset after : ℕ) → sear
     → FoundFrom field place packet parity offset after
 unfolding searched accepted
 found field place packet parity offset after e =
-    let (known-is, end) = ends field place (valued-goes _ (omega (arith, ap (λ (p : Paper). length (p .values)) e))) in
+    let (known-is, end) = ends field place (valued-goes _ (omega (arith, counts e))) in
     record {
       identified = known-is;
       end = end;
@@ -220,13 +220,13 @@ found field place packet parity offset after e =
 -- ---- what was refused at a unit
 
 not-one : (t : Bool) (paper answer : Paper) (x : ℕ) → cond t (leave paper) (goOn x) ≡ leave answer → length (paper .values) ≡ length (answer .values)
-not-one true paper answer x e = ap (λ (p : Paper). length (p .values)) (same-answer paper answer e)
-not-one false paper answer x e = absurd (let z : _≡_ {A = ℕ} 0 1 = cc in omega arith)
+not-one true paper answer x e = counts (same-answer paper answer e)
+not-one false paper answer x e = absurd (never (cc))
 
 refused-of : (field : List ℕ) (place : ℕ) (h : Here) (number at : ℕ) → stepOf field place h ≡ leave (refusedBy number (at ∷ [])) → (h ≡ refused number) × (place ≡ at)
 unfolding stepOf unitAnswer foundAnswer accepted refusedBy
 refused-of field place the-end number at e =
-    absurd (let n = ap (λ (p : Paper). length (p .values)) (same-answer _ _ e) in omega arith)
+    absurd (let n = counts (same-answer _ _ e) in omega arith)
 refused-of field place (refused n) number at e =
     let same = same-answer _ _ e in
     let numbers : some n ≡ some number = ap (λ (p : Paper). p .number) same in
@@ -246,7 +246,7 @@ pub record RefusedFrom (field : List ℕ) (asked-for number at : ℕ) : Type 0 w
 pub refused-at : (field : List ℕ) (place number at : ℕ) → searched field place ≡ refusedBy number (at ∷ []) → RefusedFrom field place number at
 unfolding searched refusedBy
 refused-at field place number at e =
-    let end = ends field place (valued-goes _ (omega (arith, ap (λ (p : Paper). length (p .values)) e))) .1 in
+    let end = ends field place (valued-goes _ (omega (arith, counts e))) .1 in
     let both = refused-here field (end .last) number at (end .left-with ∙ ap leave e) in
     record { end = end; at-is = both .1; refused-is = both .0 }
 
@@ -255,7 +255,7 @@ refused-at field place number at e =
 no-more-of : (field : List ℕ) (place : ℕ) (h : Here) → stepOf field place h ≡ leave (accepted []) → h ≡ the-end
 unfolding stepOf unitAnswer foundAnswer accepted refusedBy
 no-more-of field place the-end e = refl
-no-more-of field place (refused n) e = absurd (let m = ap (λ (p : Paper). length (p .values)) (same-answer _ _ e) in omega arith)
+no-more-of field place (refused n) e = absurd (let m = counts (same-answer _ _ e) in omega arith)
 no-more-of field place a-unit e = absurd (let m = not-one (goodTeletext field place) _ _ _ e in omega arith)
 
 no-more-here : (field : List ℕ) (place : ℕ) → step field place ≡ leave (accepted []) → here field place ≡ the-end

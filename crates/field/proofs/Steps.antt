@@ -9,14 +9,14 @@ use Rattle.laws.specs.Paper.{Paper, accepted}
 use Rattle.field.specs.Field.{idAt, afterAt, teletextId, Here, the-end, a-unit, refused, here, Way, leave, goOn, asked, start, unitAnswer, unitOn, unitAt}
 use Rattle.field.specs.Search.{stepOf, step}
 use Rattle.field.specs.Private.{lineStep}
-use Rattle.field.proofs.Units.{is-unit, begins-at, start-plain}
+use Rattle.field.proofs.Units.{counts, is-unit, begins-at, start-plain}
 
 module _ (field : List ℕ) (place : ℕ) where
   leaves-of : (h : Here) (paper : Paper) → paper ≡ unitAnswer field place h → length (paper .values) < 3 → leave paper ≡ stepOf field place h
   unfolding stepOf unitAnswer
   leaves-of the-end paper e few = ap leave e
   leaves-of (refused number) paper e few = ap leave e
-  leaves-of a-unit paper e few = absurd (let n = ap (λ (p : Paper). length (p .values)) e in omega arith)
+  leaves-of a-unit paper e few = absurd (let n = counts e in omega arith)
 
   -- where no unit stands, the answer is the walk's
   pub leaves : (paper : Paper) → paper ≡ unitAnswer field place (here field place) → length (paper .values) < 3 → leave paper ≡ step field place
@@ -31,8 +31,8 @@ module _ (field : List ℕ) (place : ℕ) where
 
   pub tells : (h : Here) (id size after : ℕ) → accepted (id ∷ size ∷ after ∷ []) ≡ unitAnswer field place h → Tells h id size after
   unfolding unitAnswer accepted
-  tells the-end id size after e = absurd (let n = ap (λ (p : Paper). length (p .values)) e in omega arith)
-  tells (refused number) id size after e = absurd (let n = ap (λ (p : Paper). length (p .values)) e in omega arith)
+  tells the-end id size after e = absurd (let n = counts e in omega arith)
+  tells (refused number) id size after e = absurd (let n = counts e in omega arith)
   tells a-unit id size after e =
       record {
         stands = refl;
@@ -60,7 +60,7 @@ module _ (field : List ℕ) (place id size after : ℕ) where
   unit-on : (way : Way) → start field place ≡ way → unitOn field way ≡ accepted (id ∷ size ∷ after ∷ []) → (asked place + 2 ≤ after) × (after ≤ length field)
   unfolding unitOn accepted
   unit-on (leave answer) s e =
-      absurd (let none = start-plain field place answer s in let three = ap (λ (p : Paper). length (p .values)) e in omega arith)
+      absurd (let none = start-plain field place answer s in let three = counts e in omega arith)
   unit-on (goOn first) s e =
       let told = tells field first (here field first) id size after (sym e) in
       let fits = is-unit field first (told .stands) .whole in

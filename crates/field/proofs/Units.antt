@@ -12,9 +12,17 @@ use lib.ListN.{length}
 use Rattle.laws.specs.Paper.{Paper, accepted, refusedBy}
 use Rattle.field.specs.Field.{identifier, low, high, known, noField, idAt, lengthAt, afterAt, teletextId, short, wrongLength, the-end, a-unit, refused, here, Way, leave, goOn, asked, pastField, start, unitOn, unitAt}
 
+-- what two cases come to that can't both hold
+pub never : _≡_ {A = ℕ} 0 1 → ⊥
+never e = omega arith
+
+-- equal answers have as many values
+pub counts : {a b : Paper} → a ≡ b → length (a .values) ≡ length (b .values)
+counts e = ap (λ (answer : Paper). length (answer .values)) e
+
 -- two tests, of which neither passed
 pub neither : (a b : Bool) → (a || b) ≡ false → (a ≡ false) × (b ≡ false)
-neither true b e = absurd (let z : _≡_ {A = ℕ} 0 1 = cc in omega arith)
+neither true b e = absurd (never (cc))
 neither false b e = (refl, e)
 
 module _ (field : List ℕ) (place : ℕ) where
@@ -50,8 +58,8 @@ unfolding unitAt
 unit-from field place e = ap (unitOn field) e
 
 on-goes : (a b : Bool) (p q : Paper) (x first : ℕ) → cond a (leave p) (cond b (leave q) (goOn x)) ≡ goOn first → (a ≡ false) × (b ≡ false) × (x ≡ first)
-on-goes true b p q x first e = absurd (let z : _≡_ {A = ℕ} 0 1 = cc in omega arith)
-on-goes false true p q x first e = absurd (let z : _≡_ {A = ℕ} 0 1 = cc in omega arith)
+on-goes true b p q x first e = absurd (never (cc))
+on-goes false true p q x first e = absurd (never (cc))
 on-goes false false p q x first e = (refl, refl, cc)
 
 not-empty : (field : List ℕ) → noField field ≡ false → 0 < length field
@@ -112,7 +120,7 @@ Refused-first answer = (refusedBy 14 [] ≡ answer) ⊎ (refusedBy 17 [] ≡ ans
 left-first : (a b : Bool) (p q : Paper) (x : ℕ) (answer : Paper) → cond a (leave p) (cond b (leave q) (goOn x)) ≡ leave answer → (p ≡ answer) ⊎ (q ≡ answer)
 left-first true b p q x answer e = inl (cc)
 left-first false true p q x answer e = inr (cc)
-left-first false false p q x answer e = absurd (let z : _≡_ {A = ℕ} 0 1 = cc in omega arith)
+left-first false false p q x answer e = absurd (never (cc))
 
 pub start-refused : (field : List ℕ) (place : ℕ) (answer : Paper) → start field place ≡ leave answer → Refused-first answer
 unfolding start
@@ -121,8 +129,8 @@ start-refused field place answer e = left-first (noField field) (pastField field
 -- 14 and 17 have no value
 no-value : (answer : Paper) → Refused-first answer → length (answer .values) ≡ 0
 unfolding refusedBy
-no-value answer (inl e) = sym (ap (λ (p : Paper). length (p .values)) e)
-no-value answer (inr e) = sym (ap (λ (p : Paper). length (p .values)) e)
+no-value answer (inl e) = sym (counts e)
+no-value answer (inr e) = sym (counts e)
 
 pub start-plain : (field : List ℕ) (place : ℕ) (answer : Paper) → start field place ≡ leave answer → length (answer .values) ≡ 0
 start-plain field place answer e = no-value answer (start-refused field place answer e)
@@ -148,16 +156,16 @@ pub record IsUnit (field : List ℕ) (place : ℕ) : Type 0 where
   pub allowed : wrongLength (identifier field) (idAt field place) (lengthAt field place) ≡ false
 
 here-picks : (e s w : Bool) → cond e the-end (cond s (refused 15) (cond w (refused 16) a-unit)) ≡ a-unit → (s ≡ false) × (w ≡ false)
-here-picks true s w q = absurd (let z : _≡_ {A = ℕ} 0 1 = cc in omega arith)
-here-picks false true w q = absurd (let z : _≡_ {A = ℕ} 0 1 = cc in omega arith)
-here-picks false false true q = absurd (let z : _≡_ {A = ℕ} 0 1 = cc in omega arith)
+here-picks true s w q = absurd (never (cc))
+here-picks false true w q = absurd (never (cc))
+here-picks false false true q = absurd (never (cc))
 here-picks false false false q = (refl, refl)
 
 end-picks : (e s w : Bool) → cond e the-end (cond s (refused 15) (cond w (refused 16) a-unit)) ≡ the-end → e ≡ true
 end-picks true s w q = refl
-end-picks false true w q = absurd (let z : _≡_ {A = ℕ} 0 1 = cc in omega arith)
-end-picks false false true q = absurd (let z : _≡_ {A = ℕ} 0 1 = cc in omega arith)
-end-picks false false false q = absurd (let z : _≡_ {A = ℕ} 0 1 = cc in omega arith)
+end-picks false true w q = absurd (never (cc))
+end-picks false false true q = absurd (never (cc))
+end-picks false false false q = absurd (never (cc))
 
 pub is-end : (field : List ℕ) (place : ℕ) → here field place ≡ the-end → place ≡ length field
 unfolding here
@@ -182,8 +190,8 @@ is-known field e = not-false (known (identifier field)) (neither (eqb (length fi
 fixed-length : (l h t c e : Bool) → (l || h) ≡ true → t ≡ true → ((l || h && (t || c)) && not e) ≡ false → e ≡ true
 fixed-length true h t c e k u w = not-false e w
 fixed-length false true true c e k u w = not-false e w
-fixed-length false true false c e k u w = absurd (let z : _≡_ {A = ℕ} 0 1 = cc in omega arith)
-fixed-length false false t c e k u w = absurd (let z : _≡_ {A = ℕ} 0 1 = cc in omega arith)
+fixed-length false true false c e k u w = absurd (never (cc))
+fixed-length false false t c e k u w = absurd (never (cc))
 
 right-length : (byte id size : ℕ) → known byte ≡ true → teletextId id ≡ true → wrongLength byte id size ≡ false → size ≡ 44
 unfolding known wrongLength

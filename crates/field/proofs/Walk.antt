@@ -8,7 +8,7 @@ use lib.ListN.{length}
 use Rattle.laws.specs.Paper.{Paper}
 use Rattle.field.specs.Field.{afterAt, Here, the-end, a-unit, refused, here, Way, leave, goOn, start}
 use Rattle.field.specs.Search.{goodTeletext, stepOf, step, Walk, left, onward, walk, walkFrom, walkOn, searched}
-use Rattle.field.proofs.Units.{Begins, is-unit}
+use Rattle.field.proofs.Units.{never, Begins, is-unit}
 
 -- ---- a step that goes on
 
@@ -19,14 +19,14 @@ pub record GoesOn (field : List ℕ) (place after : ℕ) : Type 0 where
   pub after-is : afterAt field place ≡ after
 
 not-left : (t : Bool) (paper : Paper) (x after : ℕ) → cond t (leave paper) (goOn x) ≡ goOn after → (t ≡ false) × (x ≡ after)
-not-left true paper x after e = absurd (let z : _≡_ {A = ℕ} 0 1 = cc in omega arith)
+not-left true paper x after e = absurd (never (cc))
 not-left false paper x after e = (refl, cc)
 
 module _ (field : List ℕ) (place : ℕ) where
   goes-of : (h : Here) (after : ℕ) → here field place ≡ h → stepOf field place h ≡ goOn after → GoesOn field place after
   unfolding stepOf
-  goes-of the-end after h e = absurd (let z : _≡_ {A = ℕ} 0 1 = cc in omega arith)
-  goes-of (refused number) after h e = absurd (let z : _≡_ {A = ℕ} 0 1 = cc in omega arith)
+  goes-of the-end after h e = absurd (never (cc))
+  goes-of (refused number) after h e = absurd (never (cc))
   goes-of a-unit after h e =
       let both = not-left (goodTeletext field place) _ _ _ e in
       record { stands = h; not-good = both .0; after-is = both .1 }
