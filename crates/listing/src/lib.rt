@@ -107,7 +107,10 @@ fn refused_line(number: usize) -> Line
 fn refused_at_line(number: usize, place: usize) -> Line
     ensures { λ r. ⌜ r ≡ lineOf (refusedText number (place ∷ [])) ⌝ }
 {
-    put(put_decimal(put_text(refused_start(number), b" at "), place), b'\n')
+    put(
+        put_decimal(put_text(refused_start(number), b" at "), place),
+        b'\n',
+    )
 }
 
 fn too_long_line() -> Line
