@@ -9,15 +9,19 @@ use Rattle.laws.specs.Paper.{Paper}
 use Rattle.field.specs.Field.{asked, unitAt, anyUnitPaper}
 use Rattle.field.specs.declared.AnyUnit.{AnyUnit}
 use Rattle.listing.specs.Lines.{Told, last, told, tooLongText, lineAt, most}
-use Rattle.listing.specs.Held.{lineOf, held, listedPaper}
-use Rattle.listing.specs.Private.{stopped}
+use Rattle.listing.specs.Held.{room, held, listedPaper}
+use Rattle.listing.specs.Private.{Written, stopped}
 use Rattle.listing.specs.declared.Line.{Line}
 use Rattle.listing.specs.declared.Listed.{Listed}
+use Rattle.listing.proofs.Held.{used-fits}
 
 -- a line after which nothing is listed
-pub stops : {listed : Listed} {line : Line} (text : List ℕ) → listed ≡ stopped line → line ≡ lineOf text → listedPaper listed ≡ held (last text)
+pub stops-short : {listed : Listed} {line : Line} {text : List ℕ} → listed ≡ stopped line → Written line text → listed .line .used ≤ room
+stops-short e w = rw e (used-fits w)
+
+pub stops : {listed : Listed} {line : Line} (text : List ℕ) → listed ≡ stopped line → Written line text → listedPaper listed ≡ held (last text)
 unfolding listedPaper held last
-stops text e is = rw (e, is)
+stops text e w = rw (e, w .is)
 
 module _ (field : List ℕ) (place : ℕ) where
   pub too-long : most < length field → lineAt field place ≡ last tooLongText

@@ -8,7 +8,7 @@ use lib.ListN.{length, take, getD, set, replicate, length-append, length-replica
 use lib.Seq.{length-take-le, take-suc, take-append-seam, set-append-seam}
 use Rattle.listing.specs.Lines.{decimal, refusedWord}
 use Rattle.listing.specs.Held.{lineOf, room}
-use Rattle.listing.specs.Private.{textOf, Ready}
+use Rattle.listing.specs.Private.{textOf, Ready, Written}
 use Rattle.listing.specs.declared.Line.{Line}
 use Rattle.listing.proofs.Decimal.{twenty-digits}
 
@@ -126,3 +126,17 @@ refused-is n word e =
     let digits = twenty-digits n word in
     let both = length-append refusedWord (decimal n) in
     record { is = e; short = omega arith }
+
+-- a line that is made, and its length
+pub written : {line : Line} {text : List ℕ} {most : ℕ} → Holds line text most → most ≤ room → {same : List ℕ} → text ≡ same → Written line same
+written h fits e =
+    let short = h .short in
+    let equal = ap length e in
+    record { is = h .is ∙ ap lineOf e; fits = omega arith }
+
+pub used-fits : {line : Line} {text : List ℕ} → Written line text → line .used ≤ room
+unfolding lineOf
+used-fits {line} w =
+    let used = ap (λ (l : Line). l .used) (w .is) in
+    let fits = w .fits in
+    omega arith

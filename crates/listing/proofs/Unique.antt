@@ -28,4 +28,4 @@ listed-back : (listed : Listed) → listedBack (listedPaper listed) ≡ listed
 listed-back listed = back-next (listed .next) listed refl
 
 pub line-at-unique : Unique line-at.ended line-at-reads.Post
-line-at-unique κs a r r′ ws ws′ p q = (told-apart listedPaper listedBack listed-back r r′ (p ∙ sym q), refl)
+line-at-unique κs a r r′ ws ws′ p q = (told-apart listedPaper listedBack listed-back r r′ (p .0 ∙ sym (q .0)), refl)

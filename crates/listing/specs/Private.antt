@@ -20,3 +20,8 @@ pub record Ready (line : Line) (more : ℕ) : Type 0 where
 -- a line after which nothing is listed
 abbrev pub stopped : Line → Listed
 stopped line = record { line = line; next = Stop }
+
+-- a line that holds a text which it has room for
+pub record Written (line : Line) (text : List ℕ) : Type 0 where
+  pub is : line ≡ lineOf text
+  pub fits : length text ≤ room

@@ -1,11 +1,12 @@
 // The lines of the unit lister: the text of what stands at a place of a data field, and the place at which the listing goes on.
 ghost use mathlib.Core.List.{[], _∷_, _++_};
 ghost use mathlib.Core.Path.{_≡_};
+ghost use Prim.Native.Nat.{_≤_};
 ghost use lib.ListN.{length};
 ghost use Rattle.field.specs.Field.{asked};
 ghost use Rattle.listing.specs.Lines.{decimal, refusedWord, unitText, endText, refusedText, tooLongText, lineAt};
-ghost use Rattle.listing.specs.Held.{lineOf, held, listedPaper};
-ghost use Rattle.listing.specs.Private.{textOf, Ready, stopped};
+ghost use Rattle.listing.specs.Held.{lineOf, room, held, listedPaper};
+ghost use Rattle.listing.specs.Private.{textOf, Ready, Written, stopped};
 use field::AnyUnit;
 
 // The longest field that is listed.
@@ -79,7 +80,7 @@ fn put_decimal(line: Line, number: usize) -> Line
 }
 
 fn unit_line(place: usize, id: u8, length: u8) -> Line
-    ensures { λ r. ⌜ r ≡ lineOf (unitText place id length) ⌝ }
+    ensures { λ r. ⌜ Written r (unitText place id length) ⌝ }
 {
     let with_place = put(put_decimal(blank(), place), b' ');
     let with_id = put(put_decimal(with_place, id as usize), b' ');
@@ -87,7 +88,7 @@ fn unit_line(place: usize, id: u8, length: u8) -> Line
 }
 
 fn end_line(size: usize) -> Line
-    ensures { λ r. ⌜ r ≡ lineOf (endText size) ⌝ }
+    ensures { λ r. ⌜ Written r (endText size) ⌝ }
 {
     put(put_decimal(put_text(blank(), b"end "), size), b'\n')
 }
@@ -99,13 +100,13 @@ fn refused_start(number: usize) -> Line
 }
 
 fn refused_line(number: usize) -> Line
-    ensures { λ r. ⌜ r ≡ lineOf (refusedText number []) ⌝ }
+    ensures { λ r. ⌜ Written r (refusedText number []) ⌝ }
 {
     put(refused_start(number), b'\n')
 }
 
 fn refused_at_line(number: usize, place: usize) -> Line
-    ensures { λ r. ⌜ r ≡ lineOf (refusedText number (place ∷ [])) ⌝ }
+    ensures { λ r. ⌜ Written r (refusedText number (place ∷ [])) ⌝ }
 {
     put(
         put_decimal(put_text(refused_start(number), b" at "), place),
@@ -114,7 +115,7 @@ fn refused_at_line(number: usize, place: usize) -> Line
 }
 
 fn too_long_line() -> Line
-    ensures { λ r. ⌜ r ≡ lineOf tooLongText ⌝ }
+    ensures { λ r. ⌜ Written r tooLongText ⌝ }
 {
     put_text(blank(), b"too long\n")
 }
@@ -139,9 +140,10 @@ fn last_line(line: Line) -> Listed
     }
 }
 
-// The line of what stands at a place of a field.
+// The line of what stands at a place of a field. The second promise is for callers: a line is never longer than its room.
 pub fn line_at(field: &[u8], place: usize) -> Listed
     ensures { λ r. ⌜ listedPaper r ≡ held (lineAt (now (field .entry)) place) ⌝ }
+    ensures { λ r. ⌜ r .line .used ≤ room ⌝ }
 {
     if field.len() > MOST {
         return last_line(too_long_line());

@@ -1,11 +1,9 @@
 -- `listing::end_line` meets its contract: the word, the number and the line feed.
-use mathlib.Core.Path.{_∙_, ap}
 use mathlib.Core.List.{_++_, append-assoc}
 use native.Mathlib.Omega.{arith}
 use borrow.Author.Needs.{needs}
 use Rattle.listing.specs.Lines.{decimal, endWord, lineFeed, endText}
-use Rattle.listing.specs.Held.{lineOf}
-use Rattle.listing.proofs.Held.{Holds, starts, has-room, has-room-for, with-text, with-number}
+use Rattle.listing.proofs.Held.{Holds, starts, has-room, has-room-for, with-text, with-number, written}
 use Rattle.listing.proofs.end_line.Statement.{statement}
 use Rattle.listing.proofs.end_line.Tie as tie
 
@@ -32,7 +30,7 @@ put-requires c κs = has-room (size-is c) 1 (omega arith)
 
 returns : tie.Need-returns
 unfolding endText
-returns c = with-text (size-is (c .before)) lineFeed (c .put .ensures) .is ∙ ap lineOf (simp append-assoc)
+returns c = written (with-text (size-is (c .before)) lineFeed (c .put .ensures)) (omega arith) (simp append-assoc)
 
 pub end-line-spec : {M : Type 1} → statement M
 end-line-spec =

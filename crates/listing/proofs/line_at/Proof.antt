@@ -6,7 +6,8 @@ use Rattle.field.specs.Field.{asked, anyUnitPaper}
 use Rattle.field.specs.declared.AnyUnit.{AnyUnit}
 use Rattle.listing.specs.Lines.{told, numbered, taken, last, lineAt}
 use Rattle.listing.specs.Held.{held, listedPaper, nextPaper}
-use Rattle.listing.proofs.Answers.{stops, too-long, told-of}
+use Rattle.listing.proofs.Answers.{stops, stops-short, too-long, told-of}
+use Rattle.listing.proofs.Held.{used-fits}
 use borrow.Author.Needs.{needs}
 use Rattle.listing.proofs.line_at.Statement.{statement}
 use Rattle.listing.proofs.line_at.Tie as tie
@@ -24,7 +25,7 @@ last-line-requires : tie.Need-last-line-requires
 last-line-requires c κs = search needs
 
 returns : tie.Need-returns
-returns c = stops _ (c .last-line .ensures) (c .before .too-long-line .ensures) ∙ ap held (sym (too-long _ _ (c .before .before .if1 .taken)))
+returns c = (stops _ (c .last-line .ensures) (c .before .too-long-line .ensures) ∙ ap held (sym (too-long _ _ (c .before .before .if1 .taken))), stops-short (c .last-line .ensures) (c .before .too-long-line .ensures))
 
 unit-at-requires : tie.Need-unit-at-requires
 unit-at-requires c κs = search needs
@@ -85,27 +86,27 @@ last-line-requires-6 c κs = search needs
 
 returns-2 : tie.Need-returns-2
 unfolding listedPaper held nextPaper told numbered taken anyUnitPaper accepted
-returns-2 c = rw (c .unit-line .ensures, c .before .unit-place .ensures) (ap held (answer-is (c .before .before .before .before .before) (c .before .before .before .id .given .1)))
+returns-2 c = (rw (c .unit-line .ensures .is, c .before .unit-place .ensures) (ap held (answer-is (c .before .before .before .before .before) (c .before .before .before .id .given .1))), used-fits (c .unit-line .ensures))
 
 returns-3 : tie.Need-returns-3
 unfolding told numbered taken anyUnitPaper accepted refusedBy
-returns-3 c = stops _ (c .last-line2 .ensures) (c .before .end-line .ensures) ∙ ap held (answer-is (c .before .before .before .before) (c .before .before .enum-told .given .1))
+returns-3 c = (stops _ (c .last-line2 .ensures) (c .before .end-line .ensures) ∙ ap held (answer-is (c .before .before .before .before) (c .before .before .enum-told .given .1)), stops-short (c .last-line2 .ensures) (c .before .end-line .ensures))
 
 returns-4 : tie.Need-returns-4
 unfolding told numbered taken anyUnitPaper accepted refusedBy
-returns-4 c = stops _ (c .last-line3 .ensures) (c .before .refused-line .ensures) ∙ ap held (answer-is (c .before .before .before .before) (c .before .before .enum-told2 .given .1))
+returns-4 c = (stops _ (c .last-line3 .ensures) (c .before .refused-line .ensures) ∙ ap held (answer-is (c .before .before .before .before) (c .before .before .enum-told2 .given .1)), stops-short (c .last-line3 .ensures) (c .before .refused-line .ensures))
 
 returns-5 : tie.Need-returns-5
 unfolding told numbered taken anyUnitPaper accepted refusedBy
-returns-5 c = stops _ (c .last-line4 .ensures) (c .before .refused-line2 .ensures) ∙ ap held (answer-is (c .before .before .before .before) (c .before .before .enum-told3 .given .1))
+returns-5 c = (stops _ (c .last-line4 .ensures) (c .before .refused-line2 .ensures) ∙ ap held (answer-is (c .before .before .before .before) (c .before .before .enum-told3 .given .1)), stops-short (c .last-line4 .ensures) (c .before .refused-line2 .ensures))
 
 returns-6 : tie.Need-returns-6
 unfolding told numbered taken anyUnitPaper accepted refusedBy
-returns-6 c = stops _ (c .last-line5 .ensures) (c .before .refused-at-line .ensures) ∙ ap held (answer-is (c .before .before .before .before .before) (c .before .before .before .at .given .1))
+returns-6 c = (stops _ (c .last-line5 .ensures) (c .before .refused-at-line .ensures) ∙ ap held (answer-is (c .before .before .before .before .before) (c .before .before .before .at .given .1)), stops-short (c .last-line5 .ensures) (c .before .refused-at-line .ensures))
 
 returns-7 : tie.Need-returns-7
 unfolding told numbered taken anyUnitPaper accepted refusedBy
-returns-7 c = stops _ (c .last-line6 .ensures) (c .before .refused-at-line2 .ensures) ∙ ap held (answer-is (c .before .before .before .before .before) (c .before .before .before .at2 .given .1))
+returns-7 c = (stops _ (c .last-line6 .ensures) (c .before .refused-at-line2 .ensures) ∙ ap held (answer-is (c .before .before .before .before .before) (c .before .before .before .at2 .given .1)), stops-short (c .last-line6 .ensures) (c .before .refused-at-line2 .ensures))
 
 pub line-at-spec : {M : Type 1} → statement M
 line-at-spec =

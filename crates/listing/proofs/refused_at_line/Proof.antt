@@ -1,11 +1,9 @@
 -- `listing::refused_at_line` meets its contract: the start of a refusal, the word, the place and the line feed.
-use mathlib.Core.Path.{_∙_, ap}
 use mathlib.Core.List.{_++_, append-assoc}
 use native.Mathlib.Omega.{arith}
 use borrow.Author.Needs.{needs}
 use Rattle.listing.specs.Lines.{decimal, refusedWord, atWord, lineFeed, refusedText}
-use Rattle.listing.specs.Held.{lineOf}
-use Rattle.listing.proofs.Held.{Holds, has-room, has-room-for, with-text, with-number, refused-is}
+use Rattle.listing.proofs.Held.{Holds, has-room, has-room-for, with-text, with-number, refused-is, written}
 use Rattle.listing.proofs.refused_at_line.Statement.{statement}
 use Rattle.listing.proofs.refused_at_line.Tie as tie
 
@@ -35,8 +33,8 @@ returns : tie.Need-returns
 unfolding refusedText
 returns c =
     let place = c .before .before .before .before .before .args .place in
-    with-text (with-number (word-is (c .before .before)) place (omega arith) (c .before .put-decimal .ensures)) lineFeed (c .put .ensures) .is
-    ∙ ap lineOf (simp append-assoc)
+    written (with-text (with-number (word-is (c .before .before)) place (omega arith) (c .before .put-decimal .ensures)) lineFeed (c .put .ensures))
+    (omega arith) (simp append-assoc)
 
 pub refused-at-line-spec : {M : Type 1} → statement M
 refused-at-line-spec =

@@ -1,11 +1,10 @@
 -- `listing::unit_line` meets its contract: three numbers, each with what stands behind it.
-use mathlib.Core.Path.{_≡_, _∙_, ap}
+use mathlib.Core.Path.{_≡_}
 use mathlib.Core.List.{[], _∷_, _++_, append-assoc}
 use native.Mathlib.Omega.{arith}
 use borrow.Author.Needs.{needs}
 use Rattle.listing.specs.Lines.{decimal, space, lineFeed, unitText}
-use Rattle.listing.specs.Held.{lineOf}
-use Rattle.listing.proofs.Held.{Holds, starts, has-room, has-room-for, with-text, with-number}
+use Rattle.listing.proofs.Held.{Holds, starts, has-room, has-room-for, with-text, with-number, written}
 use Rattle.listing.proofs.unit_line.Statement.{statement}
 use Rattle.listing.proofs.unit_line.Tie as tie
 
@@ -54,7 +53,7 @@ unfolding unitText
 returns c =
     let size = c .before .before .before .before .before .before .before .args .length in
     let line = with-number (id-ends (c .before .before)) size (omega arith) (c .before .put-decimal3 .ensures) in
-    with-text line lineFeed (c .put3 .ensures) .is ∙ ap lineOf (simp append-assoc)
+    written (with-text line lineFeed (c .put3 .ensures)) (omega arith) (simp append-assoc)
 
 pub unit-line-spec : {M : Type 1} → statement M
 unit-line-spec =
