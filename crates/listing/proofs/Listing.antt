@@ -4,11 +4,11 @@ use mathlib.Core.Path.{_≡_, refl, sym, _∙_, ap}
 use mathlib.Core.Bool.{Bool, true, false, cond}
 use mathlib.Core.List.{List, [], _∷_, _++_, append-nil}
 use mathlib.Core.Option.{Option, none, some}
-use Prim.Native.Nat.{ℕ, zero, suc, _+_, _<_, _≤_}
+use Prim.Native.Nat.{ℕ, zero, suc, _+_, _-_, _<_, _≤_}
 use native.Mathlib.Omega.{arith}
 use borrow.Author.Tests.{ne-eqb}
 use lib.Dec.{eqb, ltb}
-use lib.ListN.{length, take, drop, length-append}
+use lib.ListN.{length, take, drop, replicate, length-append}
 use lib.Seq.{take-append-seam, drop-append-seam, drop-drop}
 use Rattle.laws.specs.Paper.{Paper, accepted, refusedBy}
 use Rattle.field.specs.Field.{
@@ -38,7 +38,13 @@ use Rattle.field.specs.Field.{
 use Rattle.field.specs.declared.AnyUnit.{AnyUnit}
 use Rattle.field.specs.declared.AnyUnit.the-variants.{Whole, End, NoField, PastField, Short, WrongLength}
 use Rattle.field.proofs.Steps.{unit-further}
-use Rattle.listing.specs.Lines.{last, taken, numbered, told, most, tooLongText, lineAt, following, lines, listedFrom, listed}
+use Rattle.listing.specs.Lines.{Told, last, taken, numbered, told, most, tooLongText, lineAt, following, lines, listedFrom, listed}
+use Rattle.listing.specs.Held.{room, lineOf, Held, held, nextPaper, listedPaper}
+use Rattle.listing.specs.Private.{textOf}
+use Rattle.listing.specs.declared.Line.{Line}
+use Rattle.listing.specs.declared.Listed.{Listed}
+use Rattle.listing.specs.declared.Next.{Next}
+use Rattle.listing.proofs.Held.{holds}
 
 never : _≡_ {A = ℕ} 0 1 → ⊥
 never e = omega arith
@@ -193,3 +199,29 @@ module _ (input : List ℕ) (sent place : ℕ) (so-far : Sent input sent place) 
       let both = ap length is in
       let all = so-far .whole in
       omega arith
+
+-- ---- what the answer of `line_at` says of a step
+
+module _ (answer : Listed) (step : Told) (is : listedPaper answer ≡ held step) where
+  line-is : answer .line ≡ lineOf (step .text)
+  unfolding listedPaper held
+  line-is = ap (λ (h : Held). h .line) is
+
+  pub used-is : answer .line .used ≡ length (step .text)
+  unfolding lineOf
+  used-is = ap (λ (l : Line). l .used) line-is
+
+  pub text-is : take (answer .line .used) (answer .line .bytes) ≡ step .text
+  unfolding textOf
+  text-is = holds (step .text) line-is
+
+  pub used-inside : answer .line .used ≤ length (answer .line .bytes)
+  unfolding lineOf
+  used-inside =
+      let bytes = ap (λ (l : Line). length (l .bytes)) line-is ∙ length-append (step .text) (replicate (room - length (step .text)) 0) in
+      let used = used-is in
+      omega arith
+
+  pub next-at : {next : Next} → answer .next ≡ next → step .next ≡ nextPaper next
+  unfolding listedPaper held
+  next-at e = sym (ap (λ (h : Held). h .next) is) ∙ ap nextPaper e

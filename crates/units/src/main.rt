@@ -15,7 +15,7 @@ const LIMIT: usize = 65537;
 // Prints a line. The field and how much of its listing was printed are there for the promise alone: that the line is the part of the listing that
 // comes next.
 fn print(line: Line, field: &[u8], printed: usize) -> usize
-    requires { ⌜ line .used ≤ 64 ⌝ }
+    requires { ⌜ line .used ≤ length (line .bytes) ⌝ }
     requires { ⌜ take (line .used) (line .bytes) ≡ take (line .used) (drop printed (listed (now field))) ⌝ }
     ensures { λ r. ⌜ r ≡ line .used ⌝ }
 {

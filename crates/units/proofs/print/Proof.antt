@@ -6,10 +6,10 @@ use Rattle.units.proofs.print.Statement.{statement}
 use Rattle.units.proofs.print.Tie as tie
 
 array-share-prefix-bytes : tie.Need-array-share-prefix-bytes
-array-share-prefix-bytes c = ?
+array-share-prefix-bytes c = c .before .before .pre .0
 
 slice-aggregate-write-all : tie.Need-slice-aggregate-write-all
-slice-aggregate-write-all c = sym (length-take-le _ _ ?)
+slice-aggregate-write-all c = sym (length-take-le _ _ (c .before .before .before .pre .0))
 
 write-all-requires : tie.Need-write-all-requires
 write-all-requires c κs = search needs
