@@ -84,3 +84,22 @@ unfolding binary
 binary-append [] ys = omega arith
 binary-append (x ∷ xs) ys =
     rw (binary-append xs ys, length-append xs ys, pow-add 2 (length xs) (length ys), add-mul, mul-assoc) (omega arith)
+
+-- ---- runs of digits, one after another, as one number
+
+
+pub two-runs : (i j x y : ℕ) → binary (digits i x ++ digits j y) ≡ x % 2 ^ i * 2 ^ j + y % 2 ^ j
+two-runs i j x y =
+    binary-append (digits i x) (digits j y) ∙ rw (length-digits j y, binary-digits i x, binary-digits j y)
+
+pub three-runs : (i j k x y z : ℕ)
+    → binary (digits i x ++ (digits j y ++ digits k z)) ≡ x % 2 ^ i * 2 ^ (j + k) + y % 2 ^ j * 2 ^ k + z % 2 ^ k
+three-runs i j k x y z =
+    binary-append (digits i x) (digits j y ++ digits k z)
+    ∙ rw (length-append (digits j y) (digits k z), length-digits j y, length-digits k z, binary-digits i x, two-runs j k y z) (omega arith)
+
+-- ---- digits cut in three
+
+pub digits-cut-3 : (i j k value : ℕ) → digits (i + (j + k)) value ≡ digits i (value / 2 ^ (j + k)) ++ (digits j (value / 2 ^ k) ++ digits k value)
+digits-cut-3 i j k value =
+    digits-cut i (j + k) value ∙ ap (λ (xs : List ℕ). digits i (value / 2 ^ (j + k)) ++ xs) (digits-cut j k value)

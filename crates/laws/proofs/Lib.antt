@@ -7,3 +7,4 @@ pub mod Found
 pub mod Inverse
 pub mod Lists
 pub mod Table
+pub mod Tabulated
