@@ -6,5 +6,7 @@ pub mod Fields
 pub mod Found
 pub mod Inverse
 pub mod Lists
+pub mod Opposite
+pub mod Runs
 pub mod Table
 pub mod Tabulated

@@ -1,8 +1,26 @@
 -- For the contracts of private functions: no promise rests on these words.
-use mathlib.Core.List.{List}
+use mathlib.Core.Bool.{Bool, false, cond}
+use mathlib.Core.List.{List, [], _∷_, _++_}
 use Prim.Native.Nat.{ℕ}
 use Rattle.laws.specs.Fields.{fieldsBits, fieldsOf, bytesOf, bitsOf}
-use Rattle.page.specs.Records.{cellWidths, cellValues}
+use Rattle.packet.specs.Headers.{headerValues}
+use Rattle.packet.specs.declared.Header.{Header}
+use Rattle.page.specs.Records.{headWidths, magazineValue, cellWidths, cellValues}
+use Rattle.page.specs.Writing.{pageAnswer}
+use Rattle.page.specs.declared.Cells.{Cells}
+use Rattle.page.specs.declared.Page.{Page}
+use Rattle.page.specs.declared.WriteAnswer.{WriteAnswer}
+
+-- the bytes before the cells
+unfoldable pub headBytes : ℕ → Header → Bool → List ℕ
+unfolding bytesOf fieldsBits headerValues magazineValue
+headBytes magazine header clean =
+    bytesOf 5 (fieldsBits headWidths (magazineValue magazine ∷ headerValues header ++ (cond clean 1 0 ∷ 0 ∷ [])))
+
+-- a page's answer, from its parts
+unfoldable pub partsAnswer : ℕ → Header → Cells → WriteAnswer
+unfolding pageAnswer
+partsAnswer magazine header cells = pageAnswer (record { magazine = magazine; header = header; clean = false; cells = cells })
 
 -- the bytes of so many cells
 unfoldable pub cellBytes : ℕ → ℕ → List ℕ → List ℕ → List ℕ

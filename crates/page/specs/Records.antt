@@ -58,6 +58,9 @@ recordWidths = headWidths ++ cellWidths cellCount
 
 -- ---- the values of a page, in their order
 
+abbrev pub cellsOf : List ℕ → List ℕ → Cells
+cellsOf characters marks = record { characters = characters; marks = marks }
+
 -- 0 for 8
 unfoldable pub magazineValue : ℕ → ℕ
 magazineValue magazine = magazine % 8
@@ -120,7 +123,7 @@ charactersFrom (mark ∷ character ∷ values) = character ∷ charactersFrom va
 
 unfoldable pub cellsFrom : List ℕ → Cells
 unfolding marksFrom charactersFrom
-cellsFrom values = record { characters = charactersFrom values; marks = marksFrom values }
+cellsFrom values = cellsOf (charactersFrom values) (marksFrom values)
 
 unfoldable pub pageFrom : List ℕ → Page
 unfolding magazineFrom headerAt cellsFrom
