@@ -1,3 +1,5 @@
+use native.Mathlib.Nat.{add-zero}
+use Rattle.laws.proofs.Runs.{part-is}
 use borrow.Author.Needs.{needs}
 use Rattle.page.proofs.eight_at.Statement.{statement}
 use Rattle.page.proofs.eight_at.Tie as tie
@@ -50,7 +52,10 @@ shared-slice-read-t25 : tie.Need-shared-slice-read-t25
 shared-slice-read-t25 c = search needs
 
 returns : tie.Need-returns
-returns c = ?
+returns c =
+    let cells = c .before .before .before .before .before .before .before .before .args .cells .now in
+    let at = c .before .before .before .before .before .before .before .before .args .at in
+    rw (add-zero at) at (part-is cells at 8 (c .before .before .before .before .before .before .before .before .pre))
 
 pub eight-at-spec : {M : Type 1} → statement M
 eight-at-spec =

@@ -1,3 +1,4 @@
+use Rattle.page.proofs.Checks.{header-columns}
 use borrow.Author.Needs.{needs}
 use Rattle.page.proofs.header_columns_marked.Statement.{statement}
 use Rattle.page.proofs.header_columns_marked.Tie as tie
@@ -29,7 +30,7 @@ shared-slice-read-result-8 : tie.Need-shared-slice-read-result-8
 shared-slice-read-result-8 c = search needs
 
 returns : tie.Need-returns
-returns c = ?
+returns c = header-columns (c .before .before .before .before .before .before .before .before .args .marks .now) (c .before .before .before .before .before .before .before .before .pre)
 
 pub header-columns-marked-spec : {M : Type 1} → statement M
 header-columns-marked-spec =

@@ -1,3 +1,4 @@
+use Rattle.laws.proofs.Runs.{stored-list}
 use native.Mathlib.Omega.{arith}
 use lib.ListN.{length-set}
 use borrow.Author.Needs.{needs}
@@ -40,7 +41,7 @@ same-length : tie.Need-same-length
 same-length c = search needs
 
 returns : tie.Need-returns
-returns c = ?
+returns c = stored-list 4 (c .args .«record» .now) 0 (c .args .t2) (search needs) (c .pre)
 
 pub store-head-spec : {M : Type 1} → statement M
 store-head-spec =

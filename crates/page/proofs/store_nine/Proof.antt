@@ -1,3 +1,4 @@
+use Rattle.laws.proofs.Runs.{stored-list}
 use native.Mathlib.Omega.{arith}
 use lib.ListN.{length-set}
 use borrow.Author.Needs.{needs}
@@ -88,7 +89,7 @@ same-length : tie.Need-same-length
 same-length c = simp length-set
 
 returns : tie.Need-returns
-returns c = ?
+returns c = stored-list 8 (c .args .«record» .now) (c .args .at) (c .args .t3) (search needs) (c .pre)
 
 pub store-nine-spec : {M : Type 1} → statement M
 store-nine-spec =
