@@ -1,3 +1,5 @@
 pub mod Answers
 pub mod Checks
 pub mod Groups
+pub mod Heads
+pub mod Splits

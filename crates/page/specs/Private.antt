@@ -31,3 +31,8 @@ cellBytes count bytes marks characters = bytesOf bytes (fieldsBits (cellWidths c
 unfoldable pub cellFields : ℕ → List ℕ → List ℕ
 unfolding bitsOf fieldsOf cellWidths
 cellFields count bytes = fieldsOf (cellWidths count) (bitsOf bytes)
+
+-- the values before the cells in their bytes
+unfoldable pub headFields : List ℕ → List ℕ
+unfolding bitsOf fieldsOf
+headFields bytes = fieldsOf headWidths (bitsOf bytes)

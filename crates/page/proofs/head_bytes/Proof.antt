@@ -1,3 +1,5 @@
+use native.Mathlib.Omega.{arith}
+use Rattle.page.proofs.Heads.{bit-below, five-bytes}
 use borrow.Author.Needs.{needs}
 use Rattle.page.proofs.head_bytes.Statement.{statement}
 use Rattle.page.proofs.head_bytes.Tie as tie
@@ -53,13 +55,13 @@ cast-t33 : tie.Need-cast-t33
 cast-t33 c = search needs
 
 mul-t34 : tie.Need-mul-t34
-mul-t34 c = ?
+mul-t34 c = record { fits = omega (arith, bit-below (c .before .before .before .before .before .before .before .before .before .before .args .clean)) }
 
 add-t35 : tie.Need-add-t35
-add-t35 c = ?
+add-t35 c = record { fits = omega (arith, bit-below (c .before .before .before .before .before .before .before .before .before .before .args .clean)) }
 
 returns : tie.Need-returns
-returns c = ?
+returns c = five-bytes (c .before .before .before .before .before .before .before .before .before .before .args .magazine) (c .before .before .before .before .before .before .before .before .before .before .args .header) (c .before .before .before .before .before .before .before .before .before .before .args .clean)
 
 pub head-bytes-spec : {M : Type 1} → statement M
 head-bytes-spec =
