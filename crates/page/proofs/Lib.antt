@@ -3,3 +3,4 @@ pub mod Checks
 pub mod Groups
 pub mod Heads
 pub mod Splits
+pub mod Storing
