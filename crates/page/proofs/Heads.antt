@@ -13,7 +13,7 @@ use Rattle.laws.proofs.Tabulated.{tabulated, cons-is}
 use Rattle.packet.specs.Headers.{headerValues}
 use Rattle.packet.specs.declared.Header.{Header}
 use Rattle.page.specs.Private.{headBytes, headFields}
-use Rattle.page.specs.Records.{headWidths, magazineValue}
+use Rattle.page.specs.Records.{headValues, headWidths, magazineValue}
 
 module _ (g t u ht hu mt mu co cl z : ℕ) where
   -- the values' bits, cut where a byte ends
@@ -58,7 +58,7 @@ pub five-bytes : (magazine : ℕ) (h : Header) (clean : Bool) → _≡_ {A = Lis
     ∷ (h .control % 8 * 32 + boolByte clean * 16)
     ∷ [])
     (headBytes magazine h clean)
-unfolding headBytes magazineValue headerValues
+unfolding headBytes headValues magazineValue headerValues
 five-bytes magazine h clean =
     cons-is (ap (λ (n : ℕ). n * 32 + h .tens % 16 * 2 + h .units / 8 % 2) (sym (mod-mod magazine 8)))
     (cons-is refl (cons-is refl (cons-is refl (cons-is (clean-bit clean (h .control % 8 * 32)) refl))))

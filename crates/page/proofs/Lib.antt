@@ -4,3 +4,4 @@ pub mod Groups
 pub mod Heads
 pub mod Splits
 pub mod Storing
+pub mod Writing

@@ -1,11 +1,10 @@
 -- For the contracts of private functions: no promise rests on these words.
-use mathlib.Core.Bool.{Bool, false, cond}
-use mathlib.Core.List.{List, [], _∷_, _++_}
+use mathlib.Core.Bool.{Bool, false}
+use mathlib.Core.List.{List}
 use Prim.Native.Nat.{ℕ}
 use Rattle.laws.specs.Fields.{fieldsBits, fieldsOf, bytesOf, bitsOf}
-use Rattle.packet.specs.Headers.{headerValues}
 use Rattle.packet.specs.declared.Header.{Header}
-use Rattle.page.specs.Records.{headWidths, magazineValue, cellWidths, cellValues}
+use Rattle.page.specs.Records.{headWidths, headValues, cellWidths, cellValues}
 use Rattle.page.specs.Writing.{pageAnswer}
 use Rattle.page.specs.declared.Cells.{Cells}
 use Rattle.page.specs.declared.Page.{Page}
@@ -13,9 +12,8 @@ use Rattle.page.specs.declared.WriteAnswer.{WriteAnswer}
 
 -- the bytes before the cells
 unfoldable pub headBytes : ℕ → Header → Bool → List ℕ
-unfolding bytesOf fieldsBits headerValues magazineValue
-headBytes magazine header clean =
-    bytesOf 5 (fieldsBits headWidths (magazineValue magazine ∷ headerValues header ++ (cond clean 1 0 ∷ 0 ∷ [])))
+unfolding bytesOf fieldsBits headValues
+headBytes magazine header clean = bytesOf 5 (fieldsBits headWidths (headValues magazine header clean))
 
 -- a page's answer, from its parts
 unfoldable pub partsAnswer : ℕ → Header → Cells → WriteAnswer
