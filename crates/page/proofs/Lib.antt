@@ -2,6 +2,7 @@ pub mod Answers
 pub mod Checks
 pub mod Groups
 pub mod Heads
+pub mod Loading
 pub mod Splits
 pub mod Storing
 pub mod Writing

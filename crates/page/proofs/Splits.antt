@@ -94,3 +94,17 @@ fields-split count size whole n bytes h =
 pub length-cell-fields : (n : ℕ) (bytes : List ℕ) → length (cellFields n bytes) ≡ 2 * n
 unfolding cellFields
 length-cell-fields n bytes = length-fields (cellWidths n) (bitsOf bytes) ∙ length-widths n
+
+pub length-marks : (n : ℕ) (xs : List ℕ) → length xs ≡ 2 * n → length (marksFrom xs) ≡ n
+unfolding marksFrom
+length-marks n [] e = omega arith
+length-marks n (x ∷ []) e = absurd (omega arith)
+length-marks zero (x ∷ y ∷ xs) e = absurd (omega arith)
+length-marks (suc n) (x ∷ y ∷ xs) e = ap suc (length-marks n xs (omega arith))
+
+pub length-characters : (n : ℕ) (xs : List ℕ) → length xs ≡ 2 * n → length (charactersFrom xs) ≡ n
+unfolding charactersFrom
+length-characters n [] e = omega arith
+length-characters n (x ∷ []) e = absurd (omega arith)
+length-characters zero (x ∷ y ∷ xs) e = absurd (omega arith)
+length-characters (suc n) (x ∷ y ∷ xs) e = ap suc (length-characters n xs (omega arith))
