@@ -97,3 +97,18 @@ module _ (cells : Cells) where
 
   pub answer-lawful : cellsFit cells ≡ true → cellsLawful cells ≡ true → cellsChecked cells ≡ Lawful
   answer-lawful e f = checked true true e f
+
+-- cells that fit and are not found lawful are not lawful, and those found lawful are
+pub lawful-shown : (cells : Cells) → cellsFit cells ≡ true → Lawful ≡ cellsChecked cells → cellsLawful cells ≡ true
+lawful-shown cells e a = shown (cellsLawful cells) refl
+  where
+    shown : (lawful : Bool) → cellsLawful cells ≡ lawful → cellsLawful cells ≡ true
+    shown true f = f
+    shown false f = absurd (let z : _≡_ {A = ℕ} 0 1 = cc (answer-unlawful cells e f) in omega arith)
+
+pub unlawful-shown : (cells : Cells) → cellsFit cells ≡ true → (answer : CellsCheck) → answer ≡ cellsChecked cells → (answer ≡ Lawful → ⊥) → cellsLawful cells ≡ false
+unlawful-shown cells e answer a other = shown (cellsLawful cells) refl
+  where
+    shown : (lawful : Bool) → cellsLawful cells ≡ lawful → cellsLawful cells ≡ false
+    shown true f = absurd (other (a ∙ answer-lawful cells e f))
+    shown false f = f
