@@ -1,0 +1,9 @@
+pub mod Answers
+pub mod Checks
+pub mod Groups
+pub mod Heads
+pub mod Loading
+pub mod Reading
+pub mod Splits
+pub mod Storing
+pub mod Writing
