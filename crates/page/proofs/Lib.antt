@@ -7,3 +7,4 @@ pub mod Reading
 pub mod Splits
 pub mod Storing
 pub mod Writing
+pub mod Trips

@@ -1,0 +1,168 @@
+-- There and back: reading what was written gives the page back, and writing what was read gives the same bytes; so the reader takes exactly what the
+-- writer writes, and no page has a second form in bytes.
+use mathlib.Core.Path.{_≡_, refl, _∙_, ap, subst, sym}
+use mathlib.Core.Bool.{Bool, true, false, cond, _&&_, false≢true}
+use mathlib.Core.List.{List, [], _∷_, _++_}
+use Prim.Native.Nat.{ℕ, zero, suc, _+_, _*_, _-_, _%_, _^_, _≤_, _<_}
+use native.Mathlib.Nat.{zero-lt-suc, mod-lt}
+use native.Mathlib.Omega.{arith}
+use borrow.Author.Tests.{eq-eqb, eqb-true, leb-true, ltb-true}
+use lib.Dec.{T, eqb, leb, ltb}
+use lib.ListN.{length, getD, take, drop, length-append, length-drop}
+use Rattle.laws.specs.Below.{allBelow}
+use Rattle.laws.specs.Every.{every, everyPair}
+use Rattle.laws.specs.Fields.{bitsOf, bytesOf, fieldsBits, fieldsOf, fits, total}
+use Rattle.laws.proofs.Below.{equal-at}
+use Rattle.laws.proofs.Fields.{AreBytes, Fit, bits-back, bits-of-bits, bits-of-bytes, bytes-are-bytes, bytes-of-bits, fields-back, fields-bits, fields-fit, fit-append, fit-length, fit-tested, length-bits, length-bits-of, length-bytes, length-fields, total-append}
+use Rattle.laws.proofs.Tabulated.{cons-is, tabulated}
+use Rattle.packet.specs.Headers.{headerValues}
+use Rattle.packet.specs.declared.Header.{Header}
+use Rattle.page.specs.Lawful.{cellsFit, cellsLawful, digitsLawful, headerFits, magazineFits, pageFits}
+use Rattle.page.specs.Private.{headFrom}
+use Rattle.page.specs.Reading.{pageIn, pageRead, readAnswer}
+use Rattle.page.specs.Records.{cellValues, cellWidths, cellsFrom, cellsOf, charactersFrom, headValues, headWidths, headerWidths, magazineFrom, magazineValue, marksFrom, pageFrom, recordOf, recordValues, recordWidths, valuesOf, zeroFrom}
+use Rattle.page.specs.Writing.{pageAnswer}
+use Rattle.page.specs.declared.Cells.{Cells}
+use Rattle.page.specs.declared.Page.{Page}
+use Rattle.page.specs.declared.ReadAnswer.{ReadAnswer}
+use Rattle.page.specs.declared.ReadAnswer.the-variants as read
+use Rattle.page.specs.declared.WriteAnswer.{WriteAnswer}
+use Rattle.page.specs.declared.WriteAnswer.the-variants.{Written, TooLarge, BadDigit, UnlawfulCells}
+use Rattle.page.proofs.Reading.{headed, page-split}
+use Rattle.page.proofs.Splits.{length-values, length-widths, total-widths}
+
+-- a page of 960 cells, which every page in the code is
+abbrev pub Whole : Page → Type 0
+Whole page = (length (page .cells .characters) ≡ 960) × (length (page .cells .marks) ≡ 960)
+
+-- ---- the parts, there and back
+
+magazine-there : (value : ℕ) → value < 8 → magazineValue (magazineFrom value) ≡ value
+unfolding allBelow magazineValue magazineFrom
+magazine-there value h = equal-at 8 (λ k. magazineValue (magazineFrom k)) (λ k. k) tt value h
+
+magazine-back : (magazine : ℕ) → 1 ≤ magazine → magazine ≤ 8 → magazineFrom (magazineValue magazine) ≡ magazine
+unfolding allBelow magazineValue magazineFrom
+magazine-back magazine low high =
+    let same : (magazine - 1) + 1 ≡ magazine = omega arith in
+    subst (λ (m : ℕ). magazineFrom (magazineValue m) ≡ m) same
+    (equal-at 8 (λ k. magazineFrom (magazineValue (k + 1))) (λ k. k + 1) tt (magazine - 1) (omega arith))
+
+clean-there : (value : ℕ) → value < 2 → cond (eqb value 1) 1 0 ≡ value
+unfolding allBelow
+clean-there value h = equal-at 2 (λ k. cond (eqb k 1) 1 0) (λ k. k) tt value h
+
+clean-back : (clean : Bool) → eqb (cond clean 1 0) 1 ≡ clean
+clean-back true = refl
+clean-back false = refl
+
+marks-back : (marks characters : List ℕ) → length marks ≡ length characters → marksFrom (cellValues marks characters) ≡ marks
+unfolding marksFrom cellValues
+marks-back [] characters e = refl
+marks-back (m ∷ marks) [] e = absurd (omega arith)
+marks-back (m ∷ marks) (c ∷ characters) e = ap (λ (xs : List ℕ). m ∷ xs) (marks-back marks characters (omega arith))
+
+characters-back : (marks characters : List ℕ) → length marks ≡ length characters → charactersFrom (cellValues marks characters) ≡ characters
+unfolding charactersFrom cellValues
+characters-back [] [] e = refl
+characters-back [] (c ∷ characters) e = absurd (omega arith)
+characters-back (m ∷ marks) [] e = absurd (omega arith)
+characters-back (m ∷ marks) (c ∷ characters) e = ap (λ (xs : List ℕ). c ∷ xs) (characters-back marks characters (omega arith))
+
+cells-there : (n : ℕ) (values : List ℕ) → length values ≡ 2 * n → cellValues (marksFrom values) (charactersFrom values) ≡ values
+unfolding marksFrom charactersFrom cellValues
+cells-there n [] e = refl
+cells-there n (m ∷ []) e = absurd (omega arith)
+cells-there zero (m ∷ c ∷ values) e = absurd (omega arith)
+cells-there (suc n) (m ∷ c ∷ values) e = ap (λ (xs : List ℕ). m ∷ c ∷ xs) (cells-there n values (omega arith))
+
+-- ---- a page that is written
+
+-- what the writer's answer shows
+module _ (page : Page) (taken : pageAnswer page ≡ Written) where
+  by-answer : (f d l : Bool) → cond f (cond d (cond l Written UnlawfulCells) BadDigit) TooLarge ≡ Written → (f ≡ true) × (d ≡ true) × (l ≡ true)
+  by-answer true true true e = (refl, refl, refl)
+  by-answer true true false e = absurd (let z : _≡_ {A = ℕ} 0 1 = cc in omega arith)
+  by-answer true false l e = absurd (let z : _≡_ {A = ℕ} 0 1 = cc in omega arith)
+  by-answer false d l e = absurd (let z : _≡_ {A = ℕ} 0 1 = cc in omega arith)
+
+  shown : (pageFits page ≡ true) × (digitsLawful (page .header) ≡ true) × (cellsLawful (page .cells) ≡ true)
+  unfolding pageAnswer
+  shown = by-answer (pageFits page) (digitsLawful (page .header)) (cellsLawful (page .cells)) taken
+
+both : (a b : Bool) → (a && b) ≡ true → (a ≡ true) × (b ≡ true)
+both true b e = (refl, e)
+both false b e = absurd (false≢true e)
+
+clean-fits : (clean : Bool) → cond clean 1 0 < 2
+clean-fits true = omega arith
+clean-fits false = omega arith
+
+pub total-record : total recordWidths ≡ 8 * 1085
+unfolding recordWidths total
+total-record = total-append headWidths (cellWidths 960) ∙ ap (λ (n : ℕ). 40 + n) (total-widths 960)
+
+-- none of its values is too large
+fit-cells : (n : ℕ) (marks characters : List ℕ) → length marks ≡ n → length characters ≡ n
+    → every (fits 2) marks ≡ true → every (fits 7) characters ≡ true → Fit (cellWidths n) (cellValues marks characters)
+unfolding cellWidths cellValues every fits
+fit-cells zero [] [] e f p q = tt
+fit-cells zero [] (c ∷ characters) e f p q = absurd (omega arith)
+fit-cells zero (m ∷ marks) characters e f p q = absurd (omega arith)
+fit-cells (suc n) [] characters e f p q = absurd (omega arith)
+fit-cells (suc n) (m ∷ marks) [] e f p q = absurd (omega arith)
+fit-cells (suc n) (m ∷ marks) (c ∷ characters) e f p q =
+    let p′ = both (ltb m 4) (every (fits 2) marks) p in
+    let q′ = both (ltb c 128) (every (fits 7) characters) q in
+    (ltb-true m 4 (p′ .0), (ltb-true c 128 (q′ .0), fit-cells n marks characters (omega arith) (omega arith) (p′ .1) (q′ .1)))
+
+module _ (page : Page) (whole : Whole page) (taken : pageAnswer page ≡ Written) where
+  parts : (magazineFits (page .magazine) ≡ true) × (headerFits (page .header) ≡ true) × (cellsFit (page .cells) ≡ true)
+  unfolding pageFits
+  parts =
+      let one = both (magazineFits (page .magazine)) (headerFits (page .header) && cellsFit (page .cells)) (shown page taken .0) in
+      let two = both (headerFits (page .header)) (cellsFit (page .cells)) (one .1) in
+      (one .0, two .0, two .1)
+
+  magazine-in : (1 ≤ page .magazine) × (page .magazine ≤ 8)
+  unfolding magazineFits
+  magazine-in =
+      let ends = both (leb 1 (page .magazine)) (leb (page .magazine) 8) (parts .0) in
+      (leb-true 1 (page .magazine) (ends .0), leb-true (page .magazine) 8 (ends .1))
+
+  fit-header : Fit headerWidths (headerValues (page .header))
+  unfolding headerFits
+  fit-header = fit-tested headerWidths (headerValues (page .header)) (subst T (sym (parts .1)) tt)
+
+  fit-head : Fit headWidths (headValues (page .magazine) (page .header) (page .clean))
+  unfolding headValues magazineValue
+  fit-head =
+      (mod-lt (page .magazine) (zero-lt-suc 7),
+      fit-append headerWidths (headerValues (page .header)) (1 ∷ 4 ∷ []) (cond (page .clean) 1 0 ∷ 0 ∷ []) fit-header (clean-fits (page .clean), (zero-lt-suc 15, tt)))
+
+  fit-values : Fit recordWidths (valuesOf page)
+  unfolding recordWidths valuesOf cellsFit
+  fit-values =
+      let cells = both (every (fits 2) (page .cells .marks)) (every (fits 7) (page .cells .characters)) (parts .2) in
+      fit-append headWidths (headValues (page .magazine) (page .header) (page .clean)) (cellWidths 960) (cellValues (page .cells .marks) (page .cells .characters)) fit-head
+      (fit-cells 960 (page .cells .marks) (page .cells .characters) (whole .1) (whole .0) (cells .0) (cells .1))
+
+  -- its values are read back
+  values-back : recordValues (recordOf page) ≡ valuesOf page
+  unfolding recordValues recordOf
+  values-back =
+      ap (fieldsOf recordWidths)
+      (bits-of-bytes 1085 (fieldsBits recordWidths (valuesOf page)) (fields-bits recordWidths (valuesOf page))
+      (length-bits recordWidths (valuesOf page) (fit-length recordWidths (valuesOf page) fit-values) ∙ total-record))
+      ∙ fields-back recordWidths (valuesOf page) fit-values
+
+  page-back : pageFrom (valuesOf page) ≡ page
+  unfolding valuesOf headValues headerValues pageFrom
+  page-back =
+      λ i. record {
+        magazine = magazine-back (page .magazine) (magazine-in .0) (magazine-in .1) i;
+        header = page .header;
+        clean = clean-back (page .clean) i;
+        cells = cellsOf (characters-back (page .cells .marks) (page .cells .characters) (whole .1 ∙ sym (whole .0)) i)
+            (marks-back (page .cells .marks) (page .cells .characters) (whole .1 ∙ sym (whole .0)) i);
+      }
