@@ -12,14 +12,16 @@ use lib.ListN.{length, getD, take, drop, length-append, length-drop}
 use Rattle.laws.specs.Below.{allBelow}
 use Rattle.laws.specs.Every.{every, everyPair}
 use Rattle.laws.specs.Fields.{bitsOf, bytesOf, fieldsBits, fieldsOf, fits, total}
-use Rattle.laws.proofs.Below.{equal-at}
+use Rattle.laws.proofs.Below.{at, equal-at}
+use Rattle.laws.proofs.Bools.{passed}
 use Rattle.laws.proofs.Fields.{AreBytes, Fit, bits-back, bits-of-bits, bits-of-bytes, bytes-are-bytes, bytes-of-bits, fields-back, fields-bits, fields-fit, fit-append, fit-length, fit-tested, length-bits, length-bits-of, length-bytes, length-fields, total-append}
+use Rattle.laws.proofs.Table.{tabulate}
 use Rattle.laws.proofs.Tabulated.{cons-is, tabulated}
 use Rattle.packet.specs.Headers.{headerValues}
 use Rattle.packet.specs.declared.Header.{Header}
 use Rattle.page.specs.Lawful.{cellsFit, cellsLawful, digitsLawful, headerFits, magazineFits, pageFits}
 use Rattle.page.specs.Private.{headFrom}
-use Rattle.page.specs.Reading.{pageIn, pageRead, readAnswer}
+use Rattle.page.specs.Reading.{pageBeside, pageIn, pageRead, readAnswer}
 use Rattle.page.specs.Records.{cellValues, cellWidths, cellsFrom, cellsOf, charactersFrom, headValues, headWidths, headerWidths, magazineFrom, magazineValue, marksFrom, pageFrom, recordOf, recordValues, recordWidths, valuesOf, zeroFrom}
 use Rattle.page.specs.Writing.{pageAnswer}
 use Rattle.page.specs.declared.Cells.{Cells}
@@ -166,3 +168,74 @@ module _ (page : Page) (whole : Whole page) (taken : pageAnswer page ≡ Written
         cells = cellsOf (characters-back (page .cells .marks) (page .cells .characters) (whole .1 ∙ sym (whole .0)) i)
             (marks-back (page .cells .marks) (page .cells .characters) (whole .1 ∙ sym (whole .0)) i);
       }
+
+  pub length-record : length (recordOf page) ≡ 1085
+  unfolding recordOf
+  length-record = length-bytes 1085 (fieldsBits recordWidths (valuesOf page))
+
+  pub record-bytes : AreBytes (recordOf page)
+  unfolding recordOf
+  record-bytes =
+      bytes-are-bytes 1085 (fieldsBits recordWidths (valuesOf page)) (fields-bits recordWidths (valuesOf page))
+      (length-bits recordWidths (valuesOf page) (fit-length recordWidths (valuesOf page) fit-values) ∙ total-record)
+
+  -- the page is read back
+  pub in-record : pageIn (recordOf page) ≡ page
+  unfolding pageIn
+  in-record = ap pageFrom values-back ∙ page-back
+
+  zeros-back : eqb (zeroFrom (recordValues (recordOf page))) 0 ≡ true
+  unfolding zeroFrom valuesOf headValues headerValues
+  zeros-back = ap (λ (values : List ℕ). eqb (zeroFrom values) 0) values-back
+
+  pub reads-written : readAnswer (recordOf page) ≡ read.Read
+  unfolding readAnswer
+  reads-written =
+      let long : eqb (length (recordOf page)) 1085 ≡ true = eq-eqb _ _ length-record in
+      let digits : digitsLawful (pageIn (recordOf page) .header) ≡ true = ap (λ (p : Page). digitsLawful (p .header)) in-record ∙ shown page taken .1 in
+      let lawful : cellsLawful (pageIn (recordOf page) .cells) ≡ true = ap (λ (p : Page). cellsLawful (p .cells)) in-record ∙ shown page taken .2 in
+      λ i. cond (long i) (cond (zeros-back i) (cond (digits i) (cond (lawful i) read.Read read.UnlawfulCells) read.BadDigit) read.NotZero) read.WrongLength
+
+  -- reading what was written gives the record back
+  pub page-read-back : pageRead (recordOf page) ≡ page
+  unfolding pageRead pageBeside
+  page-read-back = ap (λ (answer : ReadAnswer). pageBeside answer (recordOf page)) reads-written ∙ in-record
+
+-- ---- a record that is read
+
+-- what the reader's answer shows
+module _ (bytes : List ℕ) (taken : readAnswer bytes ≡ read.Read) where
+  by-read : (w z d l : Bool)
+      → cond w (cond z (cond d (cond l read.Read read.UnlawfulCells) read.BadDigit) read.NotZero) read.WrongLength ≡ read.Read
+      → (w ≡ true) × (z ≡ true) × (d ≡ true) × (l ≡ true)
+  by-read true true true true e = (refl, refl, refl, refl)
+  by-read true true true false e = absurd (let z : _≡_ {A = ℕ} 0 1 = cc in omega arith)
+  by-read true true false l e = absurd (let z : _≡_ {A = ℕ} 0 1 = cc in omega arith)
+  by-read true false d l e = absurd (let z : _≡_ {A = ℕ} 0 1 = cc in omega arith)
+  by-read false z d l e = absurd (let z : _≡_ {A = ℕ} 0 1 = cc in omega arith)
+
+  read-shown : (eqb (length bytes) 1085 ≡ true) × (eqb (zeroFrom (recordValues bytes)) 0 ≡ true)
+      × (digitsLawful (pageIn bytes .header) ≡ true) × (cellsLawful (pageIn bytes .cells) ≡ true)
+  unfolding readAnswer
+  read-shown =
+      by-read (eqb (length bytes) 1085) (eqb (zeroFrom (recordValues bytes)) 0) (digitsLawful (pageIn bytes .header)) (cellsLawful (pageIn bytes .cells)) taken
+
+  pub read-whole : length bytes ≡ 1085
+  read-whole = eqb-true (length bytes) 1085 (read-shown .0)
+
+-- the values of the page of ten values and the cells'
+values-there : (head cells : List ℕ) → length head ≡ 10 → Fit headWidths head → headFrom head .zero ≡ 0 → length cells ≡ 2 * 960
+    → valuesOf (headed (headFrom head) (cellsFrom cells)) ≡ head ++ cells
+unfolding valuesOf headValues headerValues headFrom cellsFrom
+values-there head cells e fit z l =
+    let ten = tabulated 10 head e in
+    let each : Fit headWidths (tabulate (λ k. getD head k 0) 0 10) = subst (Fit headWidths) ten fit in
+    (λ i.
+    magazine-there (getD head 0 0) (each .0) i ∷ getD head 1 0 ∷ getD head 2 0 ∷ getD head 3 0 ∷ getD head 4 0 ∷ getD head 5 0 ∷ getD head 6 0 ∷ getD head 7 0
+    ∷ clean-there (getD head 8 0) (each .1 .1 .1 .1 .1 .1 .1 .1 .0) i ∷ sym z i ∷ cells-there 960 cells l i)
+    ∙ ap (λ (xs : List ℕ). xs ++ cells) (sym ten)
+
+magazine-fits : (value : ℕ) → value < 8 → magazineFits (magazineFrom value) ≡ true
+unfolding allBelow magazineFits magazineFrom
+magazine-fits value h =
+    let test = at 8 (λ k. magazineFits (magazineFrom k)) tt value h in passed (magazineFits (magazineFrom value)) test
