@@ -4,7 +4,8 @@ pub mod Groups
 pub mod Heads
 pub mod Loading
 pub mod Reading
+pub mod Rows
 pub mod Splits
 pub mod Storing
-pub mod Writing
 pub mod Trips
+pub mod Writing

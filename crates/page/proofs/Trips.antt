@@ -14,13 +14,13 @@ use Rattle.laws.specs.Every.{every, everyPair}
 use Rattle.laws.specs.Fields.{bitsOf, bytesOf, fieldsBits, fieldsOf, fits, total}
 use Rattle.laws.proofs.Below.{at, equal-at}
 use Rattle.laws.proofs.Bools.{passed}
-use Rattle.laws.proofs.Fields.{AreBytes, Fit, bits-back, bits-of-bits, bits-of-bytes, bytes-are-bytes, bytes-of-bits, fields-back, fields-bits, fields-fit, fit-append, fit-length, fit-tested, length-bits, length-bits-of, length-bytes, length-fields, total-append}
+use Rattle.laws.proofs.Fields.{AreBytes, Fit, bits-back, bits-of-bits, bits-of-bytes, bytes-are-bytes, bytes-of-bits, fields-back, fields-bits, fields-fit, fit-append, fit-length, fit-tested, length-bits, length-bits-of, length-bytes, tested-fit, total-append}
 use Rattle.laws.proofs.Table.{tabulate}
 use Rattle.laws.proofs.Tabulated.{cons-is, tabulated}
 use Rattle.packet.specs.Headers.{headerValues}
 use Rattle.packet.specs.declared.Header.{Header}
 use Rattle.page.specs.Lawful.{cellsFit, cellsLawful, digitsLawful, headerFits, magazineFits, pageFits}
-use Rattle.page.specs.Private.{headFrom}
+use Rattle.page.specs.Private.{cellFields, headFields, headFrom}
 use Rattle.page.specs.Reading.{pageBeside, pageIn, pageRead, readAnswer}
 use Rattle.page.specs.Records.{cellValues, cellWidths, cellsFrom, cellsOf, charactersFrom, headValues, headWidths, headerWidths, magazineFrom, magazineValue, marksFrom, pageFrom, recordOf, recordValues, recordWidths, valuesOf, zeroFrom}
 use Rattle.page.specs.Writing.{pageAnswer}
@@ -30,8 +30,8 @@ use Rattle.page.specs.declared.ReadAnswer.{ReadAnswer}
 use Rattle.page.specs.declared.ReadAnswer.the-variants as read
 use Rattle.page.specs.declared.WriteAnswer.{WriteAnswer}
 use Rattle.page.specs.declared.WriteAnswer.the-variants.{Written, TooLarge, BadDigit, UnlawfulCells}
-use Rattle.page.proofs.Reading.{headed, page-split}
-use Rattle.page.proofs.Splits.{length-values, length-widths, total-widths}
+use Rattle.page.proofs.Reading.{cells-fit, fields-head-fit, headed, length-head, page-is, values-are, zero-is}
+use Rattle.page.proofs.Splits.{length-cell-fields, length-characters, length-marks, total-widths}
 
 -- a page of 960 cells, which every page in the code is
 abbrev pub Whole : Page → Type 0
@@ -239,3 +239,100 @@ magazine-fits : (value : ℕ) → value < 8 → magazineFits (magazineFrom value
 unfolding allBelow magazineFits magazineFrom
 magazine-fits value h =
     let test = at 8 (λ k. magazineFits (magazineFrom k)) tt value h in passed (magazineFits (magazineFrom value)) test
+
+module _ (bytes : List ℕ) (taken : readAnswer bytes ≡ read.Read) where
+  whole-length : length bytes ≡ 1085
+  whole-length = read-whole bytes taken
+
+  head-values : List ℕ
+  head-values = headFields (take 5 bytes)
+
+  cell-values : List ℕ
+  cell-values = cellFields 960 (drop 5 bytes)
+
+  page-of : pageIn bytes ≡ headed (headFrom head-values) (cellsFrom cell-values)
+  unfolding head-values cell-values
+  page-of = page-is bytes whole-length
+
+  length-cells : length cell-values ≡ 2 * 960
+  unfolding cell-values
+  length-cells = length-cell-fields 960 (drop 5 bytes)
+
+  head-fit : Fit headWidths head-values
+  unfolding head-values
+  head-fit = fields-head-fit bytes whole-length
+
+  ten : length head-values ≡ 10
+  unfolding head-values
+  ten = length-head bytes whole-length
+
+  zeros : headFrom head-values .zero ≡ 0
+  unfolding head-values
+  zeros = sym (zero-is bytes whole-length) ∙ eqb-true (zeroFrom (recordValues bytes)) 0 (read-shown bytes taken .1)
+
+  values-of : valuesOf (pageIn bytes) ≡ recordValues bytes
+  unfolding head-values cell-values
+  values-of =
+      ap valuesOf page-of ∙ (values-there head-values cell-values ten head-fit zeros length-cells ∙ sym (values-are bytes whole-length))
+
+  pub whole-read : Whole (pageIn bytes)
+  unfolding cellsFrom
+  whole-read =
+      (ap (λ (p : Page). length (p .cells .characters)) page-of ∙ length-characters 960 cell-values length-cells,
+      ap (λ (p : Page). length (p .cells .marks)) page-of ∙ length-marks 960 cell-values length-cells)
+
+  head-fits : (head : List ℕ) → length head ≡ 10 → Fit headWidths head → (magazineFits (headFrom head .magazine) ≡ true) × (headerFits (headFrom head .header) ≡ true)
+  unfolding headFrom headerFits headerValues
+  head-fits head e fit =
+      let each : Fit headWidths (tabulate (λ k. getD head k 0) 0 10) = subst (Fit headWidths) (tabulated 10 head e) fit in
+      (magazine-fits (getD head 0 0) (each .0),
+      tested-fit headerWidths (tabulate (λ k. getD head k 0) 1 7)
+      (each .1 .0, (each .1 .1 .0, (each .1 .1 .1 .0, (each .1 .1 .1 .1 .0, (each .1 .1 .1 .1 .1 .0, (each .1 .1 .1 .1 .1 .1 .0, (each .1 .1 .1 .1 .1 .1 .1 .0, tt))))))))
+
+  fits-read : pageFits (pageIn bytes) ≡ true
+  unfolding pageFits cell-values
+  fits-read =
+      let head = head-fits head-values ten head-fit in
+      let cells : cellsFit (cellsFrom cell-values) ≡ true = cells-fit (drop 5 bytes) (length-drop 5 bytes ∙ omega (arith, whole-length)) in
+      let m : magazineFits (pageIn bytes .magazine) ≡ true = ap (λ (p : Page). magazineFits (p .magazine)) page-of ∙ head .0 in
+      let h : headerFits (pageIn bytes .header) ≡ true = ap (λ (p : Page). headerFits (p .header)) page-of ∙ head .1 in
+      let c : cellsFit (pageIn bytes .cells) ≡ true = ap (λ (p : Page). cellsFit (p .cells)) page-of ∙ cells in
+      λ i. m i && (h i && c i)
+
+  -- the writer takes what was read
+  pub writes-read : pageAnswer (pageIn bytes) ≡ Written
+  unfolding pageAnswer
+  writes-read =
+      let digits = read-shown bytes taken .2 in
+      let lawful = read-shown bytes taken .3 in
+      λ i. cond (fits-read i) (cond (digits i) (cond (lawful i) Written UnlawfulCells) BadDigit) TooLarge
+
+  -- and writing it gives the same bytes
+  pub record-back : AreBytes bytes → recordOf (pageIn bytes) ≡ bytes
+  unfolding recordOf recordValues
+  record-back are =
+      ap (λ (values : List ℕ). bytesOf 1085 (fieldsBits recordWidths values)) values-of
+      ∙ (ap (bytesOf 1085) (bits-back recordWidths (bitsOf bytes) (bits-of-bits bytes) (length-bits-of bytes ∙ (ap (λ (k : ℕ). 8 * k) whole-length ∙ sym total-record)))
+      ∙ (ap (λ (k : ℕ). bytesOf k (bitsOf bytes)) (sym whole-length) ∙ bytes-of-bits bytes are))
+
+  pub page-read : pageRead bytes ≡ pageIn bytes
+  unfolding pageRead pageBeside
+  page-read = ap (λ (answer : ReadAnswer). pageBeside answer bytes) taken
+
+-- ---- the reader takes exactly what the writer writes
+
+-- bytes that the writer writes for some page
+abbrev pub WrittenBytes : List ℕ → Type 0
+WrittenBytes bytes = (page : Page) × (Whole page × (pageAnswer page ≡ Written) × (recordOf page ≡ bytes))
+
+pub taken-is-written : (bytes : List ℕ) → AreBytes bytes → readAnswer bytes ≡ read.Read → WrittenBytes bytes
+taken-is-written bytes are taken =
+    (pageIn bytes, (whole-read bytes taken, writes-read bytes taken, record-back bytes taken are))
+
+pub written-is-taken : (bytes : List ℕ) → WrittenBytes bytes → readAnswer bytes ≡ read.Read
+written-is-taken bytes w =
+    ap readAnswer (sym (w .1 .2)) ∙ reads-written (w .0) (w .1 .0) (w .1 .1)
+
+-- and no two pages have the same bytes
+pub one-page : (page page′ : Page) → Whole page → Whole page′ → pageAnswer page ≡ Written → pageAnswer page′ ≡ Written → recordOf page ≡ recordOf page′ → page ≡ page′
+one-page page page′ w w′ a a′ e = sym (in-record page w a) ∙ (ap pageIn e ∙ in-record page′ w′ a′)
