@@ -1,7 +1,7 @@
 -- Each row is 45 whole bytes, and they depend on that row's cells alone.
 use mathlib.Core.Path.{_≡_, refl, _∙_, ap, sym}
 use mathlib.Core.List.{List, _++_}
-use Prim.Native.Nat.{ℕ, zero, suc, _+_, _*_, _-_, _≤_, _<_}
+use Prim.Native.Nat.{ℕ, zero, suc, _+_, _*_, _-_, _<_}
 use native.Mathlib.Omega.{arith}
 use lib.ListN.{length, length-drop, take, drop}
 use lib.Seq.{drop-append-add, drop-at, drop-drop, take-at}
@@ -67,7 +67,7 @@ row-bytes page whole row h =
     let all : 24 ≡ row + suc (23 - row) = omega arith in
     ap (λ (xs : List ℕ). take 45 (drop (5 + 45 * row) xs)) (record-is page)
     ∙ (ap (λ (k : ℕ). take 45 (drop (k + 45 * row) (headBytes (page .magazine) (page .header) (page .clean) ++ cellBytes 960 1080 (page .cells .marks) (page .cells .characters))))
-        (sym (length-head (page .magazine) (page .header) (page .clean)))
+    (sym (length-head (page .magazine) (page .header) (page .clean)))
     ∙ (ap (take 45) (drop-append-add (headBytes (page .magazine) (page .header) (page .clean)) (cellBytes 960 1080 (page .cells .marks) (page .cells .characters)) (45 * row))
     ∙ (ap (λ (k : ℕ). take 45 (drop (45 * row) (rowsBytes k (page .cells .marks) (page .cells .characters)))) all
     ∙ row-of row (23 - row) (page .cells .marks) (page .cells .characters) (whole .1 ∙ ap (λ (k : ℕ). 40 * k) all) (whole .0 ∙ ap (λ (k : ℕ). 40 * k) all))))

@@ -3,32 +3,29 @@
 use mathlib.Core.Path.{_≡_, refl, _∙_, ap, subst, sym}
 use mathlib.Core.Bool.{Bool, true, false, cond, _&&_, false≢true}
 use mathlib.Core.List.{List, [], _∷_, _++_}
-use Prim.Native.Nat.{ℕ, zero, suc, _+_, _*_, _-_, _%_, _^_, _≤_, _<_}
+use Prim.Native.Nat.{ℕ, zero, suc, _+_, _*_, _-_, _≤_, _<_}
 use native.Mathlib.Nat.{zero-lt-suc, mod-lt}
 use native.Mathlib.Omega.{arith}
 use borrow.Author.Tests.{eq-eqb, eqb-true, leb-true, ltb-true}
 use lib.Dec.{T, eqb, leb, ltb}
-use lib.ListN.{length, getD, take, drop, length-append, length-drop}
+use lib.ListN.{length, getD, take, drop, length-drop}
 use Rattle.laws.specs.Below.{allBelow}
-use Rattle.laws.specs.Every.{every, everyPair}
+use Rattle.laws.specs.Every.{every}
 use Rattle.laws.specs.Fields.{bitsOf, bytesOf, fieldsBits, fieldsOf, fits, total}
 use Rattle.laws.proofs.Below.{at, equal-at}
 use Rattle.laws.proofs.Bools.{passed}
-use Rattle.laws.proofs.Fields.{AreBytes, Fit, bits-back, bits-of-bits, bits-of-bytes, bytes-are-bytes, bytes-of-bits, fields-back, fields-bits, fields-fit, fit-append, fit-length, fit-tested, length-bits, length-bits-of, length-bytes, tested-fit, total-append}
+use Rattle.laws.proofs.Fields.{AreBytes, Fit, bits-back, bits-of-bits, bits-of-bytes, bytes-are-bytes, bytes-of-bits, fields-back, fields-bits, fit-append, fit-length, fit-tested, length-bits, length-bits-of, length-bytes, tested-fit, total-append}
 use Rattle.laws.proofs.Table.{tabulate}
-use Rattle.laws.proofs.Tabulated.{cons-is, tabulated}
+use Rattle.laws.proofs.Tabulated.{tabulated}
 use Rattle.packet.specs.Headers.{headerValues}
-use Rattle.packet.specs.declared.Header.{Header}
 use Rattle.page.specs.Lawful.{cellsFit, cellsLawful, digitsLawful, headerFits, magazineFits, pageFits}
 use Rattle.page.specs.Private.{cellFields, headFields, headFrom}
 use Rattle.page.specs.Reading.{pageBeside, pageIn, pageRead, readAnswer}
 use Rattle.page.specs.Records.{cellValues, cellWidths, cellsFrom, cellsOf, charactersFrom, headValues, headWidths, headerWidths, magazineFrom, magazineValue, marksFrom, pageFrom, recordOf, recordValues, recordWidths, valuesOf, zeroFrom}
 use Rattle.page.specs.Writing.{pageAnswer}
-use Rattle.page.specs.declared.Cells.{Cells}
 use Rattle.page.specs.declared.Page.{Page}
 use Rattle.page.specs.declared.ReadAnswer.{ReadAnswer}
 use Rattle.page.specs.declared.ReadAnswer.the-variants as read
-use Rattle.page.specs.declared.WriteAnswer.{WriteAnswer}
 use Rattle.page.specs.declared.WriteAnswer.the-variants.{Written, TooLarge, BadDigit, UnlawfulCells}
 use Rattle.page.proofs.Reading.{cells-fit, fields-head-fit, headed, length-head, page-is, values-are, zero-is}
 use Rattle.page.proofs.Splits.{length-cell-fields, length-characters, length-marks, total-widths}
@@ -138,9 +135,10 @@ module _ (page : Page) (whole : Whole page) (taken : pageAnswer page ≡ Written
 
   fit-head : Fit headWidths (headValues (page .magazine) (page .header) (page .clean))
   unfolding headValues magazineValue
-  fit-head =
-      (mod-lt (page .magazine) (zero-lt-suc 7),
-      fit-append headerWidths (headerValues (page .header)) (1 ∷ 4 ∷ []) (cond (page .clean) 1 0 ∷ 0 ∷ []) fit-header (clean-fits (page .clean), (zero-lt-suc 15, tt)))
+  fit-head = (
+    mod-lt (page .magazine) (zero-lt-suc 7),
+    fit-append headerWidths (headerValues (page .header)) (1 ∷ 4 ∷ []) (cond (page .clean) 1 0 ∷ 0 ∷ []) fit-header (clean-fits (page .clean), (zero-lt-suc 15, tt)),
+  )
 
   fit-values : Fit recordWidths (valuesOf page)
   unfolding recordWidths valuesOf cellsFit
@@ -277,17 +275,19 @@ module _ (bytes : List ℕ) (taken : readAnswer bytes ≡ read.Read) where
 
   pub whole-read : Whole (pageIn bytes)
   unfolding cellsFrom
-  whole-read =
-      (ap (λ (p : Page). length (p .cells .characters)) page-of ∙ length-characters 960 cell-values length-cells,
-      ap (λ (p : Page). length (p .cells .marks)) page-of ∙ length-marks 960 cell-values length-cells)
+  whole-read = (
+    ap (λ (p : Page). length (p .cells .characters)) page-of ∙ length-characters 960 cell-values length-cells,
+    ap (λ (p : Page). length (p .cells .marks)) page-of ∙ length-marks 960 cell-values length-cells,
+  )
 
   head-fits : (head : List ℕ) → length head ≡ 10 → Fit headWidths head → (magazineFits (headFrom head .magazine) ≡ true) × (headerFits (headFrom head .header) ≡ true)
   unfolding headFrom headerFits headerValues
   head-fits head e fit =
-      let each : Fit headWidths (tabulate (λ k. getD head k 0) 0 10) = subst (Fit headWidths) (tabulated 10 head e) fit in
-      (magazine-fits (getD head 0 0) (each .0),
-      tested-fit headerWidths (tabulate (λ k. getD head k 0) 1 7)
-      (each .1 .0, (each .1 .1 .0, (each .1 .1 .1 .0, (each .1 .1 .1 .1 .0, (each .1 .1 .1 .1 .1 .0, (each .1 .1 .1 .1 .1 .1 .0, (each .1 .1 .1 .1 .1 .1 .1 .0, tt))))))))
+      let each : Fit headWidths (tabulate (λ k. getD head k 0) 0 10) = subst (Fit headWidths) (tabulated 10 head e) fit in (
+        magazine-fits (getD head 0 0) (each .0),
+        tested-fit headerWidths (tabulate (λ k. getD head k 0) 1 7)
+            (each .1 .0, (each .1 .1 .0, (each .1 .1 .1 .0, (each .1 .1 .1 .1 .0, (each .1 .1 .1 .1 .1 .0, (each .1 .1 .1 .1 .1 .1 .0, (each .1 .1 .1 .1 .1 .1 .1 .0, tt))))))),
+      )
 
   fits-read : pageFits (pageIn bytes) ≡ true
   unfolding pageFits cell-values
