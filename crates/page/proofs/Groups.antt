@@ -1,10 +1,9 @@
 -- Eight cells are nine bytes: each byte of the eight cells, and each cell of the nine bytes, worked out.
 use mathlib.Core.Path.{_≡_, refl, _∙_, ap, sym}
-use mathlib.Core.List.{List, [], _∷_, _++_, append-assoc}
-use Prim.Native.Nat.{ℕ, _+_, _*_, _/_, _%_, _^_}
+use mathlib.Core.List.{List, [], _∷_, _++_}
+use Prim.Native.Nat.{ℕ, _+_, _*_, _/_, _%_}
 use native.Mathlib.Nat.{div-div-eq-div-mul}
 use lib.ListN.{length, getD}
-use Rattle.laws.specs.Digits.{binary}
 use Rattle.laws.specs.Fields.{digits, fieldsBits, fieldsOf, bytesOf, bitsOf}
 use Rattle.laws.proofs.Digits.{binary-digits, two-runs, three-runs}
 use Rattle.laws.proofs.Table.{tabulate}
@@ -71,9 +70,9 @@ pub nine-bytes : (ms cs : List ℕ) → length ms ≡ 8 → length cs ≡ 8 → 
     (cellBytes 8 9 ms cs)
 nine-bytes ms cs hm hc =
     bytes-of-cut (getD ms 0 0) (getD ms 1 0) (getD ms 2 0) (getD ms 3 0) (getD ms 4 0) (getD ms 5 0) (getD ms 6 0) (getD ms 7 0)
-        (getD cs 0 0) (getD cs 1 0) (getD cs 2 0) (getD cs 3 0) (getD cs 4 0) (getD cs 5 0) (getD cs 6 0) (getD cs 7 0)
+    (getD cs 0 0) (getD cs 1 0) (getD cs 2 0) (getD cs 3 0) (getD cs 4 0) (getD cs 5 0) (getD cs 6 0) (getD cs 7 0)
     ∙ (group-bytes (getD ms 0 0) (getD ms 1 0) (getD ms 2 0) (getD ms 3 0) (getD ms 4 0) (getD ms 5 0) (getD ms 6 0) (getD ms 7 0)
-        (getD cs 0 0) (getD cs 1 0) (getD cs 2 0) (getD cs 3 0) (getD cs 4 0) (getD cs 5 0) (getD cs 6 0) (getD cs 7 0)
+    (getD cs 0 0) (getD cs 1 0) (getD cs 2 0) (getD cs 3 0) (getD cs 4 0) (getD cs 5 0) (getD cs 6 0) (getD cs 7 0)
     ∙ (ap (λ (xs : List ℕ). cellBytes 8 9 xs (tabulate (λ k. getD cs k 0) 0 8)) (sym (tabulated 8 ms hm))
     ∙ ap (λ (xs : List ℕ). cellBytes 8 9 ms xs) (sym (tabulated 8 cs hc))))
 

@@ -3,7 +3,11 @@ pub mod Checks
 pub mod Groups
 pub mod Heads
 pub mod Loading
+pub mod Papers
 pub mod Reading
+pub mod Rows
 pub mod Splits
 pub mod Storing
+pub mod Trips
+pub mod Unique
 pub mod Writing

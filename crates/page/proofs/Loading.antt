@@ -1,7 +1,7 @@
 -- The loop that reads the cells: what is read, with what is left to read, is the whole.
 use mathlib.Core.Path.{_≡_, refl, _∙_, ap, subst, sym}
-use mathlib.Core.List.{List, [], _∷_, _++_, append-assoc, append-nil}
-use Prim.Native.Nat.{ℕ, zero, suc, _+_, _*_, _-_, _≤_, _<_}
+use mathlib.Core.List.{List, [], _++_, append-assoc, append-nil}
+use Prim.Native.Nat.{ℕ, _+_, _*_, _-_, _<_}
 use native.Mathlib.Omega.{arith}
 use lib.ListN.{length, take, drop, length-append, length-drop}
 use lib.Seq.{length-take-le, take-all, take-at, drop-drop}
@@ -39,10 +39,10 @@ module _ («record» : List ℕ) where
         let sixteen : length (eightOf group) ≡ 16 = length-cell-fields 8 (take 9 (drop (5 + group * 9) «record»)) in
         let front = take (group * 8) old ++ part (eightOf group) in
         let size : length front ≡ (group + 1) * 8 =
-            length-append (take (group * 8) old) (part (eightOf group))
-            ∙ rw (length-take-le (group * 8) old (omega arith), sized (eightOf group) sixteen) (omega arith) in
+        length-append (take (group * 8) old) (part (eightOf group))
+        ∙ rw (length-take-le (group * 8) old (omega arith), sized (eightOf group) sixteen) (omega arith) in
         let taken : take ((group + 1) * 8) new ≡ front =
-            ap (take ((group + 1) * 8)) e ∙ take-at front (drop (group * 8 + 8) old) ((group + 1) * 8) size in
+        ap (take ((group + 1) * 8)) e ∙ take-at front (drop (group * 8 + 8) old) ((group + 1) * 8) size in
         rw (taken, left-more l group h, joins (eightOf group) (valuesLeft (group + 1)) sixteen)
         (append-assoc (take (group * 8) old) (part (eightOf group)) (part (valuesLeft (group + 1))))
 
@@ -53,8 +53,12 @@ module _ («record» : List ℕ) where
         let sixteen : length (eightOf group) ≡ 16 = length-cell-fields 8 (take 9 (drop (5 + group * 9) «record»)) in
         ap length e
         ∙ (length-append (take (group * 8) old ++ part (eightOf group)) (drop (group * 8 + 8) old)
-        ∙ rw (length-append (take (group * 8) old) (part (eightOf group)), length-take-le (group * 8) old (omega arith),
-        sized (eightOf group) sixteen, length-drop (group * 8 + 8) old) (omega arith))
+        ∙ rw (
+          length-append (take (group * 8) old) (part (eightOf group)),
+          length-take-le (group * 8) old (omega arith),
+          sized (eightOf group) sixteen,
+          length-drop (group * 8 + 8) old,
+        ) (omega arith))
 
   module _ (l : length «record» ≡ 1085) (group : ℕ) (h : group < 120) (old new : List ℕ) (long : length old ≡ 960) where
     pub marks-more : new ≡ take (group * 8) old ++ marksFrom (eightOf group) ++ drop (group * 8 + 8) old

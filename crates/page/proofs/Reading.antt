@@ -1,12 +1,12 @@
 -- What the reader's steps come to: its answer, and the page beside it.
 use mathlib.Core.Path.{_≡_, refl, _∙_, ap, sym}
-use mathlib.Core.Bool.{Bool, true, false, cond, _&&_}
+use mathlib.Core.Bool.{Bool, true, false, cond}
 use mathlib.Core.List.{List, [], _∷_, _++_}
-use Prim.Native.Nat.{ℕ, zero, suc, _+_, _*_, _≤_}
+use Prim.Native.Nat.{ℕ, zero, suc, _*_}
 use native.Mathlib.Omega.{arith}
 use borrow.Author.Tests.{eq-eqb, ne-eqb, lt-ltb}
 use lib.Dec.{eqb}
-use lib.ListN.{length, getD, take, drop, length-drop, take-append-drop}
+use lib.ListN.{length, take, drop, take-append-drop}
 use lib.Seq.{length-take-le}
 use Rattle.laws.specs.Every.{every}
 use Rattle.laws.specs.Fields.{bitsOf, fieldsOf, fits, total}
@@ -41,7 +41,7 @@ zero-split head cells e =
     ap (λ (xs : List ℕ). zeroFrom (xs ++ cells)) (tabulated 10 head e) ∙ ap (λ (xs : List ℕ). headFrom xs .zero) (sym (tabulated 10 head e))
 
 module _ (bytes : List ℕ) (whole : length bytes ≡ 1085) where
-  values-are : recordValues bytes ≡ headFields (take 5 bytes) ++ cellFields 960 (drop 5 bytes)
+  pub values-are : recordValues bytes ≡ headFields (take 5 bytes) ++ cellFields 960 (drop 5 bytes)
   unfolding recordValues headFields cellFields total
   values-are =
       ap (λ (xs : List ℕ). fieldsOf (headWidths ++ cellWidths 960) (bitsOf xs)) (sym (take-append-drop 5 bytes))
@@ -49,7 +49,7 @@ module _ (bytes : List ℕ) (whole : length bytes ≡ 1085) where
       ∙ fields-of-append headWidths (cellWidths 960) (bitsOf (take 5 bytes)) (bitsOf (drop 5 bytes))
       (length-bits-of (take 5 bytes) ∙ ap (λ (k : ℕ). 8 * k) (length-take-le 5 bytes (omega arith))))
 
-  length-head : length (headFields (take 5 bytes)) ≡ 10
+  pub length-head : length (headFields (take 5 bytes)) ≡ 10
   unfolding headFields
   length-head = length-fields headWidths (bitsOf (take 5 bytes))
 
@@ -61,6 +61,12 @@ module _ (bytes : List ℕ) (whole : length bytes ≡ 1085) where
   zero-is = ap zeroFrom values-are ∙ zero-split (headFields (take 5 bytes)) (cellFields 960 (drop 5 bytes)) length-head
 
 -- ---- what is read fits
+
+pub fields-head-fit : (bytes : List ℕ) → length bytes ≡ 1085 → Fit headWidths (headFields (take 5 bytes))
+unfolding headFields total
+fields-head-fit bytes l =
+    fields-fit headWidths (bitsOf (take 5 bytes)) (bits-of-bits (take 5 bytes))
+    (length-bits-of (take 5 bytes) ∙ ap (λ (k : ℕ). 8 * k) (length-take-le 5 bytes (omega arith)))
 
 fit-marks : (n : ℕ) (values : List ℕ) → Fit (cellWidths n) values → every (fits 2) (marksFrom values) ≡ true
 unfolding cellWidths marksFrom every fits

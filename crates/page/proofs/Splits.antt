@@ -1,14 +1,13 @@
 -- A run of cells that fills whole bytes stands in bytes of its own: its bytes depend on it alone, and what follows it starts afresh.
 use mathlib.Core.Path.{_≡_, refl, _∙_, ap, sym}
-use mathlib.Core.List.{List, [], _∷_, _++_, append-assoc}
-use Prim.Native.Nat.{ℕ, zero, suc, _+_, _*_, _-_, _≤_, _<_}
+use mathlib.Core.List.{List, [], _∷_, _++_}
+use Prim.Native.Nat.{ℕ, zero, suc, _+_, _*_, _≤_}
 use native.Mathlib.Nat.{zero-add, suc-add}
 use native.Mathlib.Omega.{arith}
-use lib.ListN.{length, take, drop, take-append-drop, length-append, length-take, length-drop}
-use lib.Seq.{length-take-le, take-at, drop-at, drop-drop}
+use lib.ListN.{length, take, drop, take-append-drop}
+use lib.Seq.{length-take-le}
 use Rattle.laws.specs.Fields.{fieldsBits, fieldsOf, bytesOf, bitsOf, total}
-use Rattle.laws.proofs.Digits.{AreBits}
-use Rattle.laws.proofs.Fields.{Fit, bits-of-append, bits-of-bytes-append, bytes-append, fields-of-append, length-bits, length-bits-of, length-bytes, length-fields, total-append}
+use Rattle.laws.proofs.Fields.{bits-of-append, bits-of-bytes-append, bytes-append, fields-of-append, length-bits, length-bits-of, length-fields}
 use Rattle.page.specs.Private.{cellBytes, cellFields}
 use Rattle.page.specs.Records.{cellWidths, cellValues, marksFrom, charactersFrom}
 
@@ -60,11 +59,14 @@ module _ (count size : ℕ) (whole : 9 * count ≡ 8 * size) where
       let lc : length (take count cs) ≡ count = length-take-le count cs hc in
       ap (λ (xs : List ℕ). bytesOf (size + bytes) (fieldsBits (cellWidths (count + n)) (cellValues xs cs))) (sym (take-append-drop count ms))
       ∙ (ap (λ (xs : List ℕ). bytesOf (size + bytes) (fieldsBits (cellWidths (count + n)) (cellValues (take count ms ++ drop count ms) xs))) (sym (take-append-drop count cs))
-      ∙ (rw (widths-append count n, values-append (take count ms) (take count cs) (drop count ms) (drop count cs) (lm ∙ sym lc),
-      bits-of-append (cellWidths count) (cellValues (take count ms) (take count cs)) (cellWidths n) (cellValues (drop count ms) (drop count cs))
-          (length-widths count ∙ sym (length-values count (take count ms) (take count cs) lm lc)))
+      ∙ (rw (
+        widths-append count n,
+        values-append (take count ms) (take count cs) (drop count ms) (drop count cs) (lm ∙ sym lc),
+        bits-of-append (cellWidths count) (cellValues (take count ms) (take count cs)) (cellWidths n) (cellValues (drop count ms) (drop count cs))
+            (length-widths count ∙ sym (length-values count (take count ms) (take count cs) lm lc)),
+      )
       (bytes-append size bytes (fieldsBits (cellWidths count) (cellValues (take count ms) (take count cs)))
-          (fieldsBits (cellWidths n) (cellValues (drop count ms) (drop count cs))) (length-run (take count ms) (take count cs) lm lc))))
+      (fieldsBits (cellWidths n) (cellValues (drop count ms) (drop count cs))) (length-run (take count ms) (take count cs) lm lc))))
 
 -- ---- read
 

@@ -10,7 +10,6 @@ use Rattle.page.specs.Records.{headWidths, headValues, cellWidths, cellV
 use Rattle.page.specs.Writing.{pageAnswer}
 use Rattle.page.specs.declared.Cells.{Cells}
 use Rattle.page.specs.declared.Head.{Head}
-use Rattle.page.specs.declared.Page.{Page}
 use Rattle.page.specs.declared.WriteAnswer.{WriteAnswer}
 
 -- the bytes before the cells

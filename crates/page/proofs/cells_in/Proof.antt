@@ -9,11 +9,6 @@ use Rattle.page.specs.Records.{cellsFrom, cellsOf, charactersFrom, marks
 use Rattle.page.proofs.Loading.{all-read, characters-length, characters-more, eightOf, marks-length, marks-more, valuesLeft}
 use Rattle.page.proofs.cells_in.Statement.{statement}
 use Rattle.page.proofs.cells_in.Tie as tie
-use Rattle.page.proofs.cells_in.Reads as reads
-use Rattle.page.proofs.cells_in.Lts as lts
-use Rattle.page.proofs.eight_cells.Reads as eight-cells-reads
-use Rattle.page.proofs.nine_at.Reads as nine-at-reads
-use Rattle.page.proofs.store_eight.Reads as store-eight-reads
 
 abbrev Inv-loop : tie.InvT-loop
 Inv-loop «record» characters₀ marks₀ group₀ characters marks group =
@@ -89,9 +84,9 @@ loop-again c =
     let loop = c .before .before .before .before .before .before .before .before .before .before .before .loop in
     let bytes = c .before .before .before .before .before .before .before .before .before .before .before .before .before .args .«record» .now in
     let characters-stored = c .before .before .before .before .store-eight .ensures
-        ∙ ap (λ (xs : List ℕ). take (loop .group * 8) (loop .characters) ++ xs ++ drop (loop .group * 8 + 8) (loop .characters)) (read-characters (c .before .before .before .before .before .before .before .before)) in
+    ∙ ap (λ (xs : List ℕ). take (loop .group * 8) (loop .characters) ++ xs ++ drop (loop .group * 8 + 8) (loop .characters)) (read-characters (c .before .before .before .before .before .before .before .before)) in
     let marks-stored = c .before .store-eight2 .ensures
-        ∙ ap (λ (xs : List ℕ). take (loop .group * 8) (loop .marks) ++ xs ++ drop (loop .group * 8 + 8) (loop .marks)) (read-marks (c .before .before .before .before .before .before .before .before)) in (
+    ∙ ap (λ (xs : List ℕ). take (loop .group * 8) (loop .marks) ++ xs ++ drop (loop .group * 8 + 8) (loop .marks)) (read-marks (c .before .before .before .before .before .before .before .before)) in (
       search needs,
       sym (characters-length bytes (search needs) (loop .group) (search needs) (loop .characters) _ (sym (loop .inv .1)) characters-stored),
       sym (marks-length bytes (search needs) (loop .group) (search needs) (loop .marks) _ (sym (loop .inv .2)) marks-stored),

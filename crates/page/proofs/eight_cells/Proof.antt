@@ -2,8 +2,6 @@ use Rattle.page.proofs.Groups.{eight-characters, eight-marks}
 use borrow.Author.Needs.{needs}
 use Rattle.page.proofs.eight_cells.Statement.{statement}
 use Rattle.page.proofs.eight_cells.Tie as tie
-use Rattle.page.proofs.eight_cells.Reads as reads
-use Rattle.page.proofs.eight_cells.Lts as lts
 
 array-read-t7 : tie.Need-array-read-t7
 array-read-t7 c = search needs

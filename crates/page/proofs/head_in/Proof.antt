@@ -2,10 +2,6 @@ use Rattle.page.proofs.Heads.{head-from}
 use borrow.Author.Needs.{needs}
 use Rattle.page.proofs.head_in.Statement.{statement}
 use Rattle.page.proofs.head_in.Tie as tie
-use Rattle.page.proofs.head_in.Reads as reads
-use Rattle.page.proofs.head_in.Lts as lts
-use Rattle.page.proofs.magazine_in.Reads as magazine-in-reads
-use Rattle.page.proofs.wide.Reads as wide-reads
 
 array-read-magazine-in : tie.Need-array-read-magazine-in
 array-read-magazine-in c = search needs

@@ -2,8 +2,6 @@ use borrow.Author.Tests.{eq-eqb, ne-eqb}
 use Rattle.page.specs.Records.{magazineFrom}
 use Rattle.page.proofs.magazine_in.Statement.{statement}
 use Rattle.page.proofs.magazine_in.Tie as tie
-use Rattle.page.proofs.magazine_in.Reads as reads
-use Rattle.page.proofs.magazine_in.Lts as lts
 
 returns : tie.Need-returns
 unfolding magazineFrom

@@ -18,7 +18,6 @@ use Rattle.page.specs.declared.Cells.{Cells}
 use Rattle.page.specs.declared.CellsCheck.{CellsCheck}
 use Rattle.page.specs.declared.CellsCheck.the-variants.{Lawful}
 use Rattle.page.specs.declared.Head.{Head}
-use Rattle.page.specs.declared.ReadAnswer.{ReadAnswer}
 use Rattle.page.specs.declared.ReadAnswer.the-variants.{Read, WrongLength, NotZero, BadDigit, UnlawfulCells}
 use Rattle.page.proofs.CellsCheck.{the-type}
 use Rattle.page.proofs.Checks.{lawful-shown, unlawful-shown}
@@ -26,13 +25,6 @@ use Rattle.page.proofs.Reading.{answered, bad-digit, by-cells, cells-fi
 use borrow.Author.Needs.{needs}
 use Rattle.page.proofs.read_record.Statement.{statement}
 use Rattle.page.proofs.read_record.Tie as tie
-use Rattle.page.proofs.read_record.Reads as reads
-use Rattle.page.proofs.read_record.Lts as lts
-use Rattle.page.proofs.all_checked.Reads as all-checked-reads
-use Rattle.page.proofs.cells_in.Reads as cells-in-reads
-use Rattle.page.proofs.digits_lawful.Reads as digits-lawful-reads
-use Rattle.page.proofs.head_in.Reads as head-in-reads
-use Rattle.page.proofs.refused.Reads as refused-reads
 
 refused-requires : tie.Need-refused-requires
 refused-requires c κs = search needs

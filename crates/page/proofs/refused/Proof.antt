@@ -2,8 +2,6 @@ use mathlib.Core.Path.{refl}
 use Rattle.page.specs.Reading.{zeroPage}
 use Rattle.page.proofs.refused.Statement.{statement}
 use Rattle.page.proofs.refused.Tie as tie
-use Rattle.page.proofs.refused.Reads as reads
-use Rattle.page.proofs.refused.Lts as lts
 
 returns : tie.Need-returns
 unfolding zeroPage

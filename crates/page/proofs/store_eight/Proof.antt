@@ -4,8 +4,6 @@ use Rattle.laws.proofs.Runs.{stored-list}
 use borrow.Author.Needs.{needs}
 use Rattle.page.proofs.store_eight.Statement.{statement}
 use Rattle.page.proofs.store_eight.Tie as tie
-use Rattle.page.proofs.store_eight.Reads as reads
-use Rattle.page.proofs.store_eight.Lts as lts
 
 array-read-cells : tie.Need-array-read-cells
 array-read-cells c = search needs
