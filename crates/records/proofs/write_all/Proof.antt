@@ -1,4 +1,3 @@
-use Prim.Native.Nat.{_-_}
 use borrow.Author.Needs.{needs}
 use Rattle.records.proofs.write_all.Statement.{statement}
 use Rattle.records.proofs.write_all.Tie as tie

@@ -1,7 +1,5 @@
 use mathlib.Core.Path.{sym}
 use lib.Seq.{length-take-le}
-use Prim.Native.Nat.{_-_}
-use lib.ListN.{length}
 use borrow.Author.Needs.{needs}
 use Rattle.records.proofs.write_into.Statement.{statement}
 use Rattle.records.proofs.write_into.Tie as tie
