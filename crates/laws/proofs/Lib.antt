@@ -1,7 +1,10 @@
 pub mod Below
 pub mod Bools
+pub mod Digits
 pub mod Every
+pub mod Fields
 pub mod Found
 pub mod Inverse
 pub mod Lists
 pub mod Table
+pub mod Tabulated

@@ -1,5 +1,6 @@
 pub mod Below
 pub mod Digits
 pub mod Every
+pub mod Fields
 pub mod Paper
 pub mod Unique

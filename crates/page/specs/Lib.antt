@@ -1,0 +1,5 @@
+pub mod Lawful
+pub mod Private
+pub mod Reading
+pub mod Records
+pub mod Writing

@@ -1,0 +1,71 @@
+-- Document 01, "Numbers of refusal", the record reader: 20 to 23, in that order; beside a refusal the page is all zeros.
+use mathlib.Core.Bool.{cond, false}
+use mathlib.Core.List.{List, []}
+use Prim.Native.Nat.{ℕ}
+use lib.Dec.{eqb}
+use lib.ListN.{length, replicate}
+use Rattle.laws.specs.Paper.{Paper, accepted, refusedBy}
+use Rattle.packet.specs.declared.Header.{Header}
+use Rattle.page.specs.Lawful.{digitsLawful, cellsLawful}
+use Rattle.page.specs.Records.{cellCount, recordLength, recordValues, zeroFrom, pageFrom}
+use Rattle.page.specs.declared.Page.{Page}
+use Rattle.page.specs.declared.ReadAnswer.{ReadAnswer}
+use Rattle.page.specs.declared.ReadAnswer.the-variants.{Read, WrongLength, NotZero, BadDigit, UnlawfulCells}
+
+-- all zeros, literally: characters 00, marks 0, magazine 0
+unfoldable pub zeroHeader : Header
+zeroHeader =
+    record {
+      tens = 0;
+      units = 0;
+      «hours_tens» = 0;
+      «hours_units» = 0;
+      «minutes_tens» = 0;
+      «minutes_units» = 0;
+      control = 0;
+    }
+
+unfoldable pub zeroPage : Page
+unfolding zeroHeader
+zeroPage =
+    record {
+      magazine = 0;
+      header = zeroHeader;
+      clean = false;
+      cells = record { characters = replicate cellCount 0; marks = replicate cellCount 0 };
+    }
+
+-- the page of a record's bytes, whether it is lawful or not
+unfoldable pub pageIn : List ℕ → Page
+unfolding pageFrom recordValues
+pageIn bytes = pageFrom (recordValues bytes)
+
+unfoldable pub readAnswer : List ℕ → ReadAnswer
+unfolding zeroFrom recordValues pageIn digitsLawful cellsLawful
+readAnswer bytes =
+    cond (eqb (length bytes) recordLength)
+    (cond (eqb (zeroFrom (recordValues bytes)) 0)
+    (cond (digitsLawful (pageIn bytes .header)) (cond (cellsLawful (pageIn bytes .cells)) Read UnlawfulCells) BadDigit)
+    NotZero)
+    WrongLength
+
+unfoldable pub readPaper : ReadAnswer → Paper
+unfolding accepted refusedBy
+readPaper Read = accepted []
+readPaper WrongLength = refusedBy 20 []
+readPaper NotZero = refusedBy 21 []
+readPaper BadDigit = refusedBy 22 []
+readPaper UnlawfulCells = refusedBy 23 []
+
+-- the page beside each answer
+unfoldable pub pageBeside : ReadAnswer → List ℕ → Page
+unfolding pageIn zeroPage
+pageBeside Read bytes = pageIn bytes
+pageBeside WrongLength bytes = zeroPage
+pageBeside NotZero bytes = zeroPage
+pageBeside BadDigit bytes = zeroPage
+pageBeside UnlawfulCells bytes = zeroPage
+
+unfoldable pub pageRead : List ℕ → Page
+unfolding pageBeside readAnswer
+pageRead bytes = pageBeside (readAnswer bytes) bytes
