@@ -6,5 +6,6 @@ pub mod Fields
 pub mod Found
 pub mod Inverse
 pub mod Lists
+pub mod Maps
 pub mod Table
 pub mod Tabulated

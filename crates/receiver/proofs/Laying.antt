@@ -1,6 +1,6 @@
 -- Laying what was found over the cells, one cell after the other.
 use mathlib.Core.Path.{_≡_, refl, sym, ap, _∙_}
-use mathlib.Core.Bool.{true, false}
+use mathlib.Core.Bool.{Bool, true, false, cond}
 use mathlib.Core.List.{List, [], _∷_, map}
 use mathlib.Core.Option.{Option, none, some}
 use Prim.Native.Nat.{ℕ, zero, suc, _+_, _-_, _≤_, _<_, zero-le}
@@ -8,12 +8,12 @@ use native.Mathlib.Nat.{suc-add, zero-add, le-of-suc-le-suc, not-suc-le-zero}
 use native.Mathlib.Numerals.{add-one}
 use native.Mathlib.Omega.{arith}
 use borrow.Author.Tests.{lt-ltb, le-ltb}
-use lib.Dec.{leb, ltb, leb·suc-suc, lit≤}
+use lib.Dec.{eqb, leb, ltb, leb·suc-suc, lit≤}
 use lib.ListN.{length, getD, set, take, drop, length-drop, length-map}
 use lib.Seq.{getD-drop, take-length}
 use Rattle.laws.proofs.Lists.{getD-map}
 use Rattle.coding.specs.Characters.{character}
-use Rattle.receiver.specs.Cells.{laid, howMany, oneMissing}
+use Rattle.receiver.specs.Cells.{firstColumn, laid, howMany, oneMissing}
 use Rattle.receiver.specs.Private.{foundFrom, one}
 
 module _ (keep : Option ℕ → ℕ → ℕ) where
@@ -116,3 +116,13 @@ module _ (first : ℕ) (bytes : List ℕ) (whole : length bytes ≡ 40) where
   found-at k h =
       getD-map character (drop first bytes) k none 0 (rw (length-drop first bytes, whole) h)
       ∙ ap character (getD-drop first bytes k 0)
+
+-- ---- where a row's characters start
+
+pub first-most : (row : ℕ) → firstColumn row ≤ 8
+unfolding firstColumn
+first-most row = either (eqb row 0)
+  where
+    either : (b : Bool) → cond b 8 0 ≤ 8
+    either true = lit≤ tt
+    either false = lit≤ tt

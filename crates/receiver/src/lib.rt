@@ -1,14 +1,16 @@
 // The receiver of one selected page, by value: a line or a packet goes in with the receiver and a lent record, and the receiver comes back. The lent
 // record is written only where a page closes.
 ghost use mathlib.Core.Bool.{true};
+ghost use mathlib.Core.List.{map};
 ghost use mathlib.Core.Path.{_≡_};
 ghost use Prim.Native.Nat.{_+_, _-_, _≤_};
 ghost use lib.ListN.{drop, length};
+ghost use Rattle.packet.specs.Addresses.{lastRow};
 ghost use Rattle.packet.specs.Headers.{zeroHeader};
 ghost use Rattle.page.specs.Records.{recordLength};
-ghost use Rattle.receiver.specs.Cells.{aged, blank, howMany, keptCharacter, keptMark, laid, oneMissing, rowFound, stored};
+ghost use Rattle.receiver.specs.Cells.{age, aged, blank, firstColumn, howMany, keptCharacter, keptMark, laid, oneMissing, rowFound, stored};
 ghost use Rattle.receiver.specs.Entries.{answerPaper, entered, lawful, lineEntered, made, madeAnswer, packetEntered};
-ghost use Rattle.receiver.specs.Lines.{closed, closingWord, headerTaken, justClosed, lentAfter, opened, rowStored, taken, textTaken, unsureTaken};
+ghost use Rattle.receiver.specs.Lines.{openingCells, closed, closingWord, headerTaken, justClosed, lentAfter, opened, rowStored, taken, textTaken, unsureTaken};
 ghost use Rattle.receiver.specs.Private.{foundFrom, heard, laidRow, one};
 ghost use Rattle.receiver.specs.Selections.{inRange, matches, selectedPaper, timeMatches, whenInRange};
 use coding::Character;
@@ -101,6 +103,12 @@ struct Row {
     cells: Cells,
     count: u8,
     missing: bool,
+}
+
+// A receiver with a row stored, and how many characters were written.
+struct Stored {
+    receiver: Receiver,
+    count: u8,
 }
 
 fn when_in_range(when: When) -> bool
@@ -272,4 +280,79 @@ fn lay_row(cells: Cells, bytes: [u8; 40], first: usize, place: usize) -> Row
         count: written_so_far,
         missing: (written_so_far as usize) < count,
     }
+}
+
+fn aged_mark(mark: u8) -> u8
+    ensures { λ r. ⌜ r ≡ age mark ⌝ }
+{
+    if mark == 2 { 1 } else { mark }
+}
+
+// Fresh becomes older, over all marks in one pass.
+fn aged_marks(marks: [u8; 960]) -> [u8; 960]
+    requires { ⌜ length marks ≡ 960 ⌝ }
+    ensures { λ r. ⌜ r ≡ map age marks ⌝ }
+{
+    let mut result = [0u8; 960];
+    let mut at = 0;
+    while at < 960 {
+        result[at] = aged_mark(marks[at]);
+        at += 1;
+    }
+    result
+}
+
+// The cells of a page that opens: cleared where its C4 is set, aged where not.
+fn opening_cells(cells: Cells, header: Header) -> Cells
+    ensures { λ r. ⌜ r ≡ openingCells cells header ⌝ }
+{
+    if header.control / 1024 % 2 == 1 {
+        let characters = [32u8; 960];
+        let marks = [0u8; 960];
+        return Cells { characters, marks };
+    }
+    let characters = cells.characters;
+    let old = cells.marks;
+    let marks = aged_marks(old);
+    Cells { characters, marks }
+}
+
+fn first_column(row: u8) -> usize
+    ensures { λ r. ⌜ r ≡ firstColumn row ⌝ }
+{
+    if row == 0 { 8 } else { 0 }
+}
+
+// A row of an open page stored, from its first character on.
+fn store_row(receiver: Receiver, row: u8, bytes: [u8; 40]) -> Stored
+    requires { ⌜ row ≤ lastRow ⌝ }
+    ensures { λ r. ⌜ (r .receiver ≡ rowStored receiver row bytes) × (r .count ≡ howMany (rowFound row bytes)) ⌝ }
+{
+    let first = first_column(row);
+    let cells = receiver.cells;
+    let laid = lay_row(cells, bytes, first, (row as usize) * 40 + first);
+    let stored = laid.cells;
+    let selection = receiver.selection;
+    let header = receiver.header;
+    let after = Receiver {
+        selection,
+        open: receiver.open,
+        doubt: receiver.doubt | laid.missing,
+        header,
+        cells: stored,
+    };
+    Stored {
+        receiver: after,
+        count: laid.count,
+    }
+}
+
+fn closing_word(open: bool, doubt: bool) -> Closing {
+    if open {
+        if doubt {
+            return Closing::Doubt;
+        }
+        return Closing::Clean;
+    }
+    Closing::None
 }
