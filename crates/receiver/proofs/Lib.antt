@@ -1,2 +1,3 @@
 pub mod Heard
 pub mod Laying
+pub mod Steps
