@@ -6,7 +6,7 @@ use lib.ListN.{length, getD}
 use lib.Seq.{ext-getD}
 use Rattle.laws.proofs.Table.{tabulate, entry}
 
-length-tabulate : (rule : ℕ → ℕ) (n i : ℕ) → length (tabulate rule i n) ≡ n
+pub length-tabulate : (rule : ℕ → ℕ) (n i : ℕ) → length (tabulate rule i n) ≡ n
 length-tabulate rule zero i = refl
 length-tabulate rule (suc n) i = ap suc (length-tabulate rule n (suc i))
 

@@ -1,0 +1,13 @@
+use mathlib.Core.Path.{refl}
+use Rattle.page.specs.Lawful.{digitsLawful}
+use Rattle.page.proofs.digits_lawful.Statement.{statement}
+use Rattle.page.proofs.digits_lawful.Tie as tie
+use Rattle.page.proofs.digits_lawful.Reads as reads
+use Rattle.page.proofs.digits_lawful.Lts as lts
+
+returns : tie.Need-returns
+unfolding digitsLawful
+returns c = refl
+
+pub digits-lawful-spec : {M : Type 1} → statement M
+digits-lawful-spec = tie.close (tie.spec returns)

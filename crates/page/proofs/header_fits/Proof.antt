@@ -1,0 +1,13 @@
+use mathlib.Core.Bool.{and-assoc, and-true}
+use Rattle.page.specs.Lawful.{headerFits}
+use Rattle.page.proofs.header_fits.Statement.{statement}
+use Rattle.page.proofs.header_fits.Tie as tie
+use Rattle.page.proofs.header_fits.Reads as reads
+use Rattle.page.proofs.header_fits.Lts as lts
+
+returns : tie.Need-returns
+unfolding headerFits
+returns c = simp (and-assoc, and-true)
+
+pub header-fits-spec : {M : Type 1} → statement M
+header-fits-spec = tie.close (tie.spec returns)
