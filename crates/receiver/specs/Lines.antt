@@ -14,6 +14,7 @@ use Rattle.packet.specs.declared.Header.{Header}
 use Rattle.packet.specs.declared.HeaderRead.{HeaderRead}
 use Rattle.packet.specs.declared.HeaderRead.the-variants as header
 use Rattle.page.specs.Records.{recordLength, recordOf}
+use Rattle.page.specs.declared.Cells.{Cells}
 use Rattle.page.specs.declared.Page.{Page}
 use Rattle.receiver.specs.Cells.{blank, aged, stored, rowFound, howMany, oneMissing}
 use Rattle.receiver.specs.Selections.{matches}
@@ -95,16 +96,21 @@ lentAfter receiver lent = cond (receiver .«open») (recordOf (held receiver) ++
 unfoldable pub clears : Header → Bool
 clears header = eqb (header .control / 1024 % 2) 1
 
--- the page starts without doubt, its cells cleared or aged
-unfoldable pub opened : Receiver → Header → Receiver
+-- with C4 set all cells become space and never; without it fresh becomes older
+unfoldable pub openingCells : Cells → Header → Cells
 unfolding blank aged clears
+openingCells cells header = cond (clears header) blank (aged cells)
+
+-- the page starts without doubt
+unfoldable pub opened : Receiver → Header → Receiver
+unfolding openingCells
 opened receiver header =
     record {
       selection = receiver .selection;
       «open» = true;
       doubt = false;
       header = header;
-      cells = cond (clears header) blank (aged (receiver .cells));
+      cells = openingCells (receiver .cells) header;
     }
 
 -- each odd-parity byte of a row is stored, and another puts the page in doubt
