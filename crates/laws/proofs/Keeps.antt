@@ -2,13 +2,15 @@
 use mathlib.Core.Path.{_≡_, refl, ap}
 use mathlib.Core.Bool.{Bool, true, false, cond, not, _&&_}
 use mathlib.Core.List.{List, [], _∷_, map}
-use Prim.Native.Nat.{ℕ, zero, suc, _<_}
+use Prim.Native.Nat.{ℕ, zero, suc, _^_, _<_}
 use native.Mathlib.Nat.{zero-lt-suc}
 use native.Mathlib.Omega.{arith}
-use lib.Dec.{T}
+use lib.Dec.{T, lt→ltb}
 use lib.ListN.{length, getD, take, replicate}
 use Rattle.laws.specs.Every.{every, everyPair}
+use Rattle.laws.specs.Fields.{fits}
 use Rattle.laws.proofs.Bools.{both-left, both-right}
+use Rattle.laws.proofs.Fields.{Fit}
 
 pub both : (a b : Bool) → T a → T b → T (a && b)
 both true b s t = t
@@ -95,3 +97,24 @@ module _ {A B : Type 0} (test : A → B → Bool) where
   every-pair-map f keeps (x ∷ xs) (y ∷ ys) t =
       both (test (f x) y) (everyPair test (map f xs) ys) (keeps x y (both-left (test x y) (everyPair test xs ys) t))
       (every-pair-map f keeps xs ys (both-right (test x y) (everyPair test xs ys) t))
+
+-- ---- fields
+
+-- values that are not too large for their bits pass the test
+pub fit-passes : (widths values : List ℕ) → Fit widths values → T (everyPair fits widths values)
+unfolding everyPair fits
+fit-passes [] [] h = tt
+fit-passes [] (v ∷ values) h = absurd h
+fit-passes (w ∷ widths) [] h = absurd h
+fit-passes (w ∷ widths) (v ∷ values) h =
+    both (fits w v) (everyPair fits widths values) (lt→ltb v (2 ^ w) (h .0)) (fit-passes widths values (h .1))
+
+-- ---- a choice that was made
+
+pub chosen-first : (b x y : Bool) → T b → T (cond b x y) → T x
+chosen-first true x y h t = t
+chosen-first false x y h t = absurd h
+
+pub first-chosen : (b x y : Bool) → T b → T x → T (cond b x y)
+first-chosen true x y h t = t
+first-chosen false x y h t = absurd h
