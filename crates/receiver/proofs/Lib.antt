@@ -1,3 +1,5 @@
+pub mod Effects
+pub mod Entering
 pub mod Fits
 pub mod Heard
 pub mod Laid
