@@ -1,3 +1,4 @@
+pub mod Counts
 pub mod Effects
 pub mod Entering
 pub mod Fits
@@ -6,3 +7,4 @@ pub mod Laid
 pub mod Lawful
 pub mod Laying
 pub mod Sound
+pub mod Writes
