@@ -6,5 +6,7 @@ pub mod Heard
 pub mod Laid
 pub mod Lawful
 pub mod Laying
+pub mod Marks
+pub mod Sized
 pub mod Sound
 pub mod Writes
