@@ -7,6 +7,7 @@ pub mod Laid
 pub mod Lawful
 pub mod Laying
 pub mod Marks
+pub mod Rows
 pub mod Sized
 pub mod Sound
 pub mod Writes

@@ -67,6 +67,13 @@ module _ (receiver : Receiver) (packet lent : List ℕ) where
       header-not-older found c =
           stored-not-older 0 (textOf packet .bytes) (opened (closed receiver) found .cells) (opened-not-older (closed receiver) found c)
 
+-- cell by cell
+pub none-older-at : (marks : List ℕ) → T (every notOlder marks) → (k : ℕ) → getD marks k 0 ≡ older → ⊥
+unfolding every notOlder
+none-older-at [] t k e = omega arith
+none-older-at (m ∷ marks) t zero e = subst (λ (n : ℕ). T (eqb n never || eqb n fresh)) e (both-left (notOlder m) (every notOlder marks) t)
+none-older-at (m ∷ marks) t (suc k) e = none-older-at marks (both-right (notOlder m) (every notOlder marks) t) k e
+
 -- ---- none fresh right after an opening, before its text
 
 unfoldable pub notFresh : ℕ → Bool
@@ -101,7 +108,7 @@ none-fresh-at (m ∷ marks) t (suc k) e = none-fresh-at marks (both-right (notFr
 -- ---- row 0's columns 0 to 7
 
 module _ (receiver : Receiver) (is : T (lawful receiver)) (k : ℕ) (early : k < headerColumn) (inside : k < length (receiver .cells .marks)) where
-  pub header-marks-never : getD (receiver .cells .marks) k 0 ≡ never
+  header-marks-never : getD (receiver .cells .marks) k 0 ≡ never
   unfolding cellsLawful isNever
   header-marks-never =
       let pairs = everyPair cellLawful (receiver .cells .marks) (receiver .cells .characters) in
@@ -111,7 +118,7 @@ module _ (receiver : Receiver) (is : T (lawful receiver)) (k : ℕ) (early : k <
       (every-at isNever (take headerColumn (receiver .cells .marks)) (both-right pairs head (parts receiver is .sound .1)) k 0
       (simp length-take (omega arith)))
 
-  pub header-columns-space : getD (receiver .cells .characters) k 0 ≡ space
+  header-columns-space : getD (receiver .cells .characters) k 0 ≡ space
   unfolding cellsLawful cellLawful
   header-columns-space =
       let pairs = everyPair cellLawful (receiver .cells .marks) (receiver .cells .characters) in
@@ -124,12 +131,13 @@ module _ (receiver : Receiver) (is : T (lawful receiver)) (k : ℕ) (early : k <
       (every-pair-at cellLawful (receiver .cells .marks) (receiver .cells .characters) (both-left pairs head (parts receiver is .sound .1)) k 0 0 inside))
       (subst (λ (n : ℕ). T (eqb n never)) (sym header-marks-never) (eqb-refl never)))
 
+  pub header-columns-never : (getD (receiver .cells .marks) k 0 ≡ never) × (getD (receiver .cells .characters) k 0 ≡ space)
+  header-columns-never = (header-marks-never, header-columns-space)
+
 -- and so after every line
 pub header-columns-stay : (receiver : Receiver) → T (lawful receiver) → (packet lent : List ℕ) (k : ℕ) → k < headerColumn
     → k < length (taken receiver packet lent .receiver .cells .marks)
     → (getD (taken receiver packet lent .receiver .cells .marks) k 0 ≡ never)
     × (getD (taken receiver packet lent .receiver .cells .characters) k 0 ≡ space)
 header-columns-stay receiver is packet lent k early inside =
-    let after = taken receiver packet lent .receiver in
-    let still = taken-lawful receiver is lent packet in
-    (header-marks-never after still k early inside, header-columns-space after still k early inside)
+    header-columns-never (taken receiver packet lent .receiver) (taken-lawful receiver is lent packet) k early inside
