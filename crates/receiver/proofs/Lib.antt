@@ -8,6 +8,7 @@ pub mod Lawful
 pub mod Laying
 pub mod Marks
 pub mod Rows
+pub mod Shows
 pub mod Sized
 pub mod Sound
 pub mod Writes
