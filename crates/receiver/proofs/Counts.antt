@@ -10,11 +10,13 @@ use lib.Count.{ones}
 use lib.ListN.{drop}
 use Rattle.coding.specs.Bits.{odd}
 use Rattle.coding.specs.Characters.{character}
-use Rattle.packet.specs.Texts.{textOf}
+use Rattle.packet.specs.Texts.{headerColumn, textOf}
 use Rattle.receiver.specs.Cells.{firstColumn, howMany, rowFound}
 use Rattle.receiver.specs.Lines.{Outcome, Seen, headerTaken, justClosed, nothing, taken, text, textTaken}
 use Rattle.receiver.specs.declared.Receiver.{Receiver}
 use Rattle.receiver.proofs.Effects.{Opens, Stores, by-effects, kind-1-stores, kind-2-opens, seenBy}
+use Rattle.receiver.proofs.Rows.{header-first, text-first}
+use Rattle.receiver.proofs.Shows.{OurText}
 
 -- how many bytes have an odd count of ones
 unfoldable pub oddBytes : List ℕ → ℕ
@@ -41,15 +43,16 @@ count-is-odd-bytes row bytes = count-odd (drop (firstColumn row) bytes)
 
 module _ (receiver : Receiver) (packet lent : List ℕ) where
   -- a stored row
-  pub kind-1-count : (e : taken receiver packet lent .kind ≡ 1)
-      → taken receiver packet lent .count ≡ oddBytes (drop (firstColumn (kind-1-stores receiver packet lent e .row)) (textOf packet .bytes))
+  pub kind-1-count : taken receiver packet lent .kind ≡ 1 → taken receiver packet lent .count ≡ oddBytes (textOf packet .bytes)
   unfolding textTaken
   kind-1-count e =
       let s = kind-1-stores receiver packet lent e in
-      ap (λ (o : Outcome). o .count) (s .gives) ∙ count-is-odd-bytes (s .row) (textOf packet .bytes)
+      ap (λ (o : Outcome). o .count) (s .gives)
+      ∙ (count-is-odd-bytes (s .row) (textOf packet .bytes)
+      ∙ ap (λ (n : ℕ). oddBytes (drop n (textOf packet .bytes))) (text-first (s .row) (s .ours .first)))
 
   -- a header
-  pub kind-2-count : taken receiver packet lent .kind ≡ 2 → taken receiver packet lent .count ≡ oddBytes (drop 8 (textOf packet .bytes))
+  pub kind-2-count : taken receiver packet lent .kind ≡ 2 → taken receiver packet lent .count ≡ oddBytes (drop headerColumn (textOf packet .bytes))
   unfolding headerTaken
   kind-2-count e =
       ap (λ (o : Outcome). o .count) (kind-2-opens receiver packet lent e .gives) ∙ count-is-odd-bytes 0 (textOf packet .bytes)
@@ -60,7 +63,7 @@ module _ (receiver : Receiver) (packet lent : List ℕ) where
   none-stored-none-counted =
       by-effects receiver packet lent (λ (s : Seen) (o : Outcome). (o .kind ≡ 1 → ⊥) → (o .kind ≡ 2 → ⊥) → o .count ≡ 0)
       (λ n m. refl)
-      (λ row n m. absurd (n refl))
+      (λ row t n m. absurd (n refl))
       (λ found r t n m. absurd (m refl))
       (λ found r t n m. refl)
       (λ r n m. refl)

@@ -25,6 +25,7 @@ use Rattle.receiver.specs.Selections.{matches}
 use Rattle.receiver.specs.declared.Closing.{Closing}
 use Rattle.receiver.specs.declared.Closing.the-variants as closing
 use Rattle.receiver.specs.declared.Receiver.{Receiver}
+use Rattle.receiver.proofs.Shows.{OurText, seen-text}
 
 -- what the address of a packet shows to a receiver
 abbrev pub seenBy : Receiver → List ℕ → Seen
@@ -51,7 +52,8 @@ doubtOnly receiver lent =
 -- what holds of each effect of the table, with what led there, holds of a line's outcome
 module _ (receiver : Receiver) (packet lent : List ℕ) (P : Seen → Outcome → Type 0)
   (pass : P passed (nothing receiver lent))
-  (store : (row : ℕ) → P (text row) (textTaken receiver row (textOf packet .bytes) lent))
+  (store : (row : ℕ) → OurText (receiver .selection) (receiver .«open») (addressOf packet) row
+    → P (text row) (textTaken receiver row (textOf packet .bytes) lent))
   (opens : (found : Header) → headerOf packet ≡ header.Good found → T (matches (receiver .selection) found)
     → P ourHeader (headerTaken receiver found (textOf packet .bytes) lent))
   (other : (found : Header) → headerOf packet ≡ header.Good found → T (not (matches (receiver .selection) found))
@@ -78,16 +80,16 @@ module _ (receiver : Receiver) (packet lent : List ℕ) (P : Seen → Outcome �
       chosen (P (unsure false)) (receiver .«open» && false) (justClosed (doubted receiver) 4 lent) (doubtOnly receiver lent)
       (λ t. absurd (both-right (receiver .«open») false t)) (leaves false)
 
-  by-effect : (s : Seen) → P s (effect receiver s packet lent)
+  by-effect : (s : Seen) → seenBy receiver packet ≡ s → P s (effect receiver s packet lent)
   unfolding effect
-  by-effect passed = pass
-  by-effect (text row) = store row
-  by-effect ourHeader = by-header (headerOf packet) refl
-  by-effect (unsure could) = by-unsure could
+  by-effect passed e = pass
+  by-effect (text row) e = store row (seen-text (receiver .selection) (receiver .«open») (addressOf packet) row e)
+  by-effect ourHeader e = by-header (headerOf packet) refl
+  by-effect (unsure could) e = by-unsure could
 
   pub by-effects : P (seenBy receiver packet) (taken receiver packet lent)
   unfolding taken
-  by-effects = by-effect (seenBy receiver packet)
+  by-effects = by-effect (seenBy receiver packet) refl
 
 -- ---- kinds
 
@@ -98,7 +100,7 @@ module _ (receiver : Receiver) (packet lent : List ℕ) where
   kind-0-nothing =
       by-effects receiver packet lent (λ (s : Seen) (o : Outcome). o .kind ≡ 0 → o ≡ nothing receiver lent)
       (λ e. refl)
-      (λ row e. absurd (omega arith))
+      (λ row t e. absurd (omega arith))
       (λ found r m e. absurd (omega arith))
       (λ found r m e. absurd (omega arith))
       (λ r e. absurd (omega arith))
@@ -121,9 +123,9 @@ module _ (receiver : Receiver) (packet lent : List ℕ) where
       )
 
 -- kind 1: a row stored
-pub record Stores (receiver : Receiver) (packet lent : List ℕ) (s : Seen) (outcome : Outcome) : Type 0 where
+pub record Stores (receiver : Receiver) (packet lent : List ℕ) (outcome : Outcome) : Type 0 where
   pub row : ℕ
-  pub ours : s ≡ text row
+  pub ours : OurText (receiver .selection) (receiver .«open») (addressOf packet) row
   pub gives : outcome ≡ textTaken receiver row (textOf packet .bytes) lent
 
 -- kind 2: a page opened by its header
@@ -135,12 +137,12 @@ pub record Opens (receiver : Receiver) (packet lent : List ℕ) (s : Seen) (outc
   pub gives : outcome ≡ headerTaken receiver found (textOf packet .bytes) lent
 
 module _ (receiver : Receiver) (packet lent : List ℕ) where
-  pub kind-1-stores : taken receiver packet lent .kind ≡ 1 → Stores receiver packet lent (seenBy receiver packet) (taken receiver packet lent)
+  pub kind-1-stores : taken receiver packet lent .kind ≡ 1 → Stores receiver packet lent (taken receiver packet lent)
   unfolding nothing headerTaken justClosed
   kind-1-stores =
-      by-effects receiver packet lent (λ (s : Seen) (o : Outcome). o .kind ≡ 1 → Stores receiver packet lent s o)
+      by-effects receiver packet lent (λ (s : Seen) (o : Outcome). o .kind ≡ 1 → Stores receiver packet lent o)
       (λ e. absurd (omega arith))
-      (λ row e. record { row = row; ours = refl; gives = refl })
+      (λ row t e. record { row = row; ours = t; gives = refl })
       (λ found r m e. absurd (omega arith))
       (λ found r m e. absurd (omega arith))
       (λ r e. absurd (omega arith))
@@ -153,13 +155,55 @@ module _ (receiver : Receiver) (packet lent : List ℕ) where
   kind-2-opens =
       by-effects receiver packet lent (λ (s : Seen) (o : Outcome). o .kind ≡ 2 → Opens receiver packet lent s o)
       (λ e. absurd (omega arith))
-      (λ row e. absurd (omega arith))
+      (λ row t e. absurd (omega arith))
       (λ found r m e. record { found = found; ours = refl; read = r; matched = m; gives = refl })
       (λ found r m e. absurd (omega arith))
       (λ r e. absurd (omega arith))
       (λ r e. absurd (omega arith))
       (λ o e. absurd (omega arith))
       (λ could o e. absurd (omega arith))
+
+-- ---- and forth: from what was seen to the outcome
+
+module _ (receiver : Receiver) (packet lent : List ℕ) where
+  taken-seen : {s : Seen} → seenBy receiver packet ≡ s → taken receiver packet lent ≡ effect receiver s packet lent
+  unfolding taken
+  taken-seen e = ap (λ (s : Seen). effect receiver s packet lent) e
+
+  pub taken-passed : seenBy receiver packet ≡ passed → taken receiver packet lent ≡ nothing receiver lent
+  unfolding effect
+  taken-passed e = taken-seen e
+
+  pub taken-text : {row : ℕ} → seenBy receiver packet ≡ text row → taken receiver packet lent ≡ textTaken receiver row (textOf packet .bytes) lent
+  unfolding effect
+  taken-text e = taken-seen e
+
+  pub taken-unsure : {could : Bool} → seenBy receiver packet ≡ unsure could → taken receiver packet lent ≡ unsureTaken receiver could lent
+  unfolding effect
+  taken-unsure e = taken-seen e
+
+  taken-header : {read : HeaderRead} → seenBy receiver packet ≡ ourHeader → headerOf packet ≡ read
+      → taken receiver packet lent ≡ headerSeen receiver read (textOf packet .bytes) lent
+  unfolding effect
+  taken-header e r = taken-seen e ∙ ap (λ (x : HeaderRead). headerSeen receiver x (textOf packet .bytes) lent) r
+
+  pub taken-opens : (found : Header) → seenBy receiver packet ≡ ourHeader → headerOf packet ≡ header.Good found
+      → matches (receiver .selection) found ≡ true → taken receiver packet lent ≡ headerTaken receiver found (textOf packet .bytes) lent
+  unfolding headerSeen
+  taken-opens found e r m =
+      taken-header e r
+      ∙ ap (λ (b : Bool). cond b (headerTaken receiver found (textOf packet .bytes) lent) (justClosed receiver 3 lent)) m
+
+  pub taken-other : (found : Header) → seenBy receiver packet ≡ ourHeader → headerOf packet ≡ header.Good found
+      → matches (receiver .selection) found ≡ false → taken receiver packet lent ≡ justClosed receiver 3 lent
+  unfolding headerSeen
+  taken-other found e r m =
+      taken-header e r
+      ∙ ap (λ (b : Bool). cond b (headerTaken receiver found (textOf packet .bytes) lent) (justClosed receiver 3 lent)) m
+
+  pub taken-spoiled : seenBy receiver packet ≡ ourHeader → headerOf packet ≡ header.Spoiled → taken receiver packet lent ≡ justClosed receiver 5 lent
+  unfolding headerSeen
+  taken-spoiled e r = taken-header e r
 
 -- ---- closing words
 
@@ -235,7 +279,7 @@ module _ (receiver : Receiver) (packet lent : List ℕ) where
   only-closing-writes =
       by-effects receiver packet lent (λ (s : Seen) (o : Outcome). o .closing ≡ closing.None → o .lent ≡ lent)
       (λ e. refl)
-      (λ row e. refl)
+      (λ row t e. refl)
       (λ found r m e. none-writes-nothing receiver lent e)
       (λ found r m e. none-writes-nothing receiver lent e)
       (λ r e. none-writes-nothing receiver lent e)
@@ -249,7 +293,7 @@ module _ (receiver : Receiver) (packet lent : List ℕ) where
   past-stays =
       by-effects receiver packet lent (λ (s : Seen) (o : Outcome). drop recordLength (o .lent) ≡ drop recordLength lent)
       refl
-      (λ row. refl)
+      (λ row t. refl)
       (λ found r m. lent-past receiver lent)
       (λ found r m. lent-past receiver lent)
       (λ r. lent-past receiver lent)
@@ -262,7 +306,7 @@ module _ (receiver : Receiver) (packet lent : List ℕ) where
   length-stays h =
       by-effects receiver packet lent (λ (s : Seen) (o : Outcome). length (o .lent) ≡ length lent)
       refl
-      (λ row. refl)
+      (λ row t. refl)
       (λ found r m. lent-length receiver lent h)
       (λ found r m. lent-length receiver lent h)
       (λ r. lent-length receiver lent h)
@@ -283,7 +327,7 @@ module _ (receiver : Receiver) (packet lent : List ℕ) where
   clean-closing =
       by-effects receiver packet lent (λ (s : Seen) (o : Outcome). o .closing ≡ closing.Clean → Clean receiver lent s o)
       (λ e. absurd (none-not-clean e))
-      (λ row e. absurd (none-not-clean e))
+      (λ row t e. absurd (none-not-clean e))
       (λ found r m e. closed-clean refl e)
       (λ found r m e. closed-clean refl e)
       (λ r e. closed-clean refl e)

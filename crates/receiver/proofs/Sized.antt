@@ -60,7 +60,7 @@ module _ (receiver : Receiver) (is : Sized (receiver .cells)) where
   taken-sized packet lent =
       by-effects receiver packet lent (λ (s : Seen) (o : Outcome). Sized (o .receiver .cells))
       is
-      (λ row. stored-sized row (textOf packet .bytes) (receiver .cells) is)
+      (λ row t. stored-sized row (textOf packet .bytes) (receiver .cells) is)
       (λ found r m.
       stored-sized 0 (textOf packet .bytes) (opened (closed receiver) found .cells) (opened-sized (closed receiver) found closed-sized))
       (λ found r m. closed-sized)
