@@ -1,3 +1,4 @@
+pub mod Carried
 pub mod Counts
 pub mod Effects
 pub mod Entering
@@ -11,4 +12,5 @@ pub mod Rows
 pub mod Shows
 pub mod Sized
 pub mod Sound
+pub mod Undoubted
 pub mod Writes
