@@ -33,13 +33,13 @@ module _ (receiver : Receiver) (packet lent : List ℕ) where
   pub taken-selection : taken receiver packet lent .receiver .selection ≡ receiver .selection
   unfolding nothing textTaken headerTaken justClosed rowStored opened doubted
   taken-selection =
-      by-effects receiver packet lent (λ (s : Seen) (o : Outcome). o .receiver .selection ≡ receiver .selection)
+      by-effects receiver packet lent (λ (o : Outcome). o .receiver .selection ≡ receiver .selection)
       refl
       (λ row t. refl)
-      (λ found r m. closed-selection receiver)
-      (λ found r m. closed-selection receiver)
-      (λ r. closed-selection receiver)
-      (λ r. refl)
+      (λ a found r m. closed-selection receiver)
+      (λ a found r m. closed-selection receiver)
+      (λ a r. closed-selection receiver)
+      (λ a r. refl)
       (λ o. closed-selection (doubted receiver))
       (λ could o. chosen (λ (r : Receiver). r .selection ≡ receiver .selection) (receiver .«open») (doubted receiver) receiver (λ t. refl) (λ t. refl))
 
@@ -47,13 +47,13 @@ module _ (receiver : Receiver) (packet lent : List ℕ) where
       → taken receiver packet lent .receiver .cells ≡ receiver .cells
   unfolding nothing textTaken headerTaken justClosed doubted
   cells-stay =
-      by-effects receiver packet lent (λ (s : Seen) (o : Outcome). (o .kind ≡ 1 → ⊥) → (o .kind ≡ 2 → ⊥) → o .receiver .cells ≡ receiver .cells)
+      by-effects receiver packet lent (λ (o : Outcome). (o .kind ≡ 1 → ⊥) → (o .kind ≡ 2 → ⊥) → o .receiver .cells ≡ receiver .cells)
       (λ n m. refl)
       (λ row t n m. absurd (n refl))
-      (λ found r t n m. absurd (m refl))
-      (λ found r t n m. closed-cells receiver)
-      (λ r n m. closed-cells receiver)
-      (λ r n m. refl)
+      (λ a found r t n m. absurd (m refl))
+      (λ a found r t n m. closed-cells receiver)
+      (λ a r n m. closed-cells receiver)
+      (λ a r n m. refl)
       (λ o n m. closed-cells (doubted receiver))
       (λ could o n m. chosen (λ (r : Receiver). r .cells ≡ receiver .cells) (receiver .«open») (doubted receiver) receiver (λ t. refl) (λ t. refl))
 
@@ -92,14 +92,14 @@ module _ (receiver : Receiver) (packet lent : List ℕ) where
   unfolding nothing textTaken headerTaken justClosed rowStored
   going-on =
       by-effects receiver packet lent
-      (λ (s : Seen) (o : Outcome). Going (o .receiver) → (o .kind ≡ 2) ⊎ (Going receiver × WentBy receiver packet lent o))
+      (λ (o : Outcome). Going (o .receiver) → (o .kind ≡ 2) ⊎ (Going receiver × WentBy receiver packet lent o))
       (λ g. inr (g, inl refl))
       (λ row t g.
       let d = or-false (receiver .doubt) (oneMissing (rowFound row (textOf packet .bytes))) (g .1) in
       inr ((g .0, d .0), inr (record { stores = record { row = row; ours = t; gives = refl }; none-missing = d .1 })))
-      (λ found r m g. inl refl)
-      (λ found r m g. absurd (not-both (g .0) (closed-open receiver)))
-      (λ r g. absurd (not-both (g .0) (closed-open receiver)))
-      (λ r g. inr (g, inl refl))
+      (λ a found r m g. inl refl)
+      (λ a found r m g. absurd (not-both (g .0) (closed-open receiver)))
+      (λ a r g. absurd (not-both (g .0) (closed-open receiver)))
+      (λ a r g. inr (g, inl refl))
       (λ o g. absurd (not-both (g .0) (closed-open (doubted receiver))))
       (λ could o g. absurd (doubt-stops g))

@@ -61,12 +61,12 @@ module _ (receiver : Receiver) (packet lent : List ℕ) where
   pub none-stored-none-counted : (taken receiver packet lent .kind ≡ 1 → ⊥) → (taken receiver packet lent .kind ≡ 2 → ⊥) → taken receiver packet lent .count ≡ 0
   unfolding nothing textTaken headerTaken justClosed
   none-stored-none-counted =
-      by-effects receiver packet lent (λ (s : Seen) (o : Outcome). (o .kind ≡ 1 → ⊥) → (o .kind ≡ 2 → ⊥) → o .count ≡ 0)
+      by-effects receiver packet lent (λ (o : Outcome). (o .kind ≡ 1 → ⊥) → (o .kind ≡ 2 → ⊥) → o .count ≡ 0)
       (λ n m. refl)
       (λ row t n m. absurd (n refl))
-      (λ found r t n m. absurd (m refl))
-      (λ found r t n m. refl)
-      (λ r n m. refl)
-      (λ r n m. refl)
+      (λ a found r t n m. absurd (m refl))
+      (λ a found r t n m. refl)
+      (λ a r n m. refl)
+      (λ a r n m. refl)
       (λ o n m. refl)
       (λ could o n m. refl)

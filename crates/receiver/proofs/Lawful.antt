@@ -167,13 +167,13 @@ module _ (receiver : Receiver) (is : T (lawful receiver)) (lent : List ℕ) wher
   pub taken-lawful : (packet : List ℕ) → T (lawful (taken receiver packet lent .receiver))
   unfolding nothing textTaken justClosed
   taken-lawful packet =
-      by-effects receiver packet lent (λ (s : Seen) (o : Outcome). T (lawful (o .receiver)))
+      by-effects receiver packet lent (λ (o : Outcome). T (lawful (o .receiver)))
       is
       (λ row t. stored-lawful receiver row (textOf packet .bytes) is (t .with-open))
-      (λ found r m. header-taken-lawful found (textOf packet .bytes) (header-fits packet found r) m)
-      (λ found r m. closed-lawful receiver is)
-      (λ r. closed-lawful receiver is)
-      (λ r. is)
+      (λ a found r m. header-taken-lawful found (textOf packet .bytes) (header-fits packet found r) m)
+      (λ a found r m. closed-lawful receiver is)
+      (λ a r. closed-lawful receiver is)
+      (λ a r. is)
       (λ o. closed-lawful (doubted receiver) (doubted-lawful receiver is o))
       (λ could o.
       chosen (λ (r : Receiver). T (lawful r)) (receiver .«open») (doubted receiver) receiver (doubted-lawful receiver is) (λ n. is))

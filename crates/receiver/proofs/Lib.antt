@@ -12,5 +12,6 @@ pub mod Rows
 pub mod Shows
 pub mod Sized
 pub mod Sound
+pub mod Steps
 pub mod Undoubted
 pub mod Writes

@@ -58,14 +58,14 @@ module _ (receiver : Receiver) (is : Sized (receiver .cells)) where
   pub taken-sized : (packet lent : List ℕ) → Sized (taken receiver packet lent .receiver .cells)
   unfolding nothing textTaken headerTaken justClosed rowStored doubted
   taken-sized packet lent =
-      by-effects receiver packet lent (λ (s : Seen) (o : Outcome). Sized (o .receiver .cells))
+      by-effects receiver packet lent (λ (o : Outcome). Sized (o .receiver .cells))
       is
       (λ row t. stored-sized row (textOf packet .bytes) (receiver .cells) is)
-      (λ found r m.
+      (λ a found r m.
       stored-sized 0 (textOf packet .bytes) (opened (closed receiver) found .cells) (opened-sized (closed receiver) found closed-sized))
-      (λ found r m. closed-sized)
-      (λ r. closed-sized)
-      (λ r. is)
+      (λ a found r m. closed-sized)
+      (λ a r. closed-sized)
+      (λ a r. is)
       (λ o. doubted-closed)
       (λ could o. chosen (λ (x : Receiver). Sized (x .cells)) (receiver .«open») (doubted receiver) receiver (λ t. doubted-sized) (λ t. is))
     where
