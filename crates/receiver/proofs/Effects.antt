@@ -1,11 +1,13 @@
 -- What a line's kind and closing word show: kind 0 changes nothing, kinds 1 and 2 are a stored row and an opening, and only a closing writes to the
 -- lent record.
-use mathlib.Core.Path.{_≡_, refl, _∙_, ap, sym}
+use mathlib.Core.Path.{_≡_, refl, _∙_, ap, ap₂, subst, sym}
 use mathlib.Core.Bool.{Bool, true, false, cond, not, _&&_}
 use mathlib.Core.List.{List, _++_}
-use Prim.Native.Nat.{ℕ, _+_, _≤_}
+use mathlib.Core.Option.{Option, none, some}
+use Prim.Native.Nat.{ℕ, _≤_}
 use native.Mathlib.Omega.{arith}
-use lib.Dec.{T}
+use borrow.Author.Tests.{eq-eqb}
+use lib.Dec.{T, eqb}
 use lib.ListN.{drop, length, length-append, length-drop}
 use lib.Seq.{drop-at}
 use Rattle.laws.specs.Fields.{bytesOf, fieldsBits}
@@ -13,7 +15,8 @@ use Rattle.laws.proofs.Fields.{length-bytes}
 use Rattle.laws.proofs.Bools.{both-left}
 use Rattle.laws.proofs.Keeps.{chosen}
 use Rattle.packet.specs.Addresses.{addressOf}
-use Rattle.packet.specs.Headers.{headerOf}
+use Rattle.packet.specs.Headers.{allGood, headerMessages, headerOf, headerOr}
+use Rattle.packet.specs.Lines.{packetLength}
 use Rattle.packet.specs.Texts.{textOf}
 use Rattle.packet.specs.declared.Address.the-variants as address
 use Rattle.packet.specs.declared.Header.{Header}
@@ -335,3 +338,39 @@ module _ (receiver : Receiver) (packet lent : List ℕ) where
       (λ a r e. absurd (none-not-clean e))
       (λ o e. absurd (doubt-not-clean receiver e))
       (λ could o e. absurd (none-not-clean e))
+
+-- ---- every row 0 of ours closes
+
+-- a packet of 42 bytes has a header, good or spoiled
+or-not-short : (found : Option (List ℕ)) → headerOr found ≡ header.WrongLength → ⊥
+unfolding headerOr
+or-not-short none e = let z : _≡_ {A = ℕ} 0 1 = cc in omega arith
+or-not-short (some messages) e = let z : _≡_ {A = ℕ} 0 1 = cc in omega arith
+
+pub header-not-short : (packet : List ℕ) → length packet ≡ packetLength → headerOf packet ≡ header.WrongLength → ⊥
+unfolding headerOf
+header-not-short packet whole e =
+    or-not-short (allGood (headerMessages packet))
+    (sym (ap (λ (b : Bool). cond b (headerOr (allGood (headerMessages packet))) header.WrongLength) (eq-eqb (length packet) packetLength whole)) ∙ e)
+
+module _ (receiver : Receiver) (packet lent : List ℕ) (ours : seenBy receiver packet ≡ ourHeader) (whole : length packet ≡ packetLength) where
+  -- the closing of what was held
+  abbrev Closes : Outcome → Type 0
+  Closes outcome = (outcome .closing ≡ closingWord receiver) × (outcome .lent ≡ lentAfter receiver lent)
+
+  read-closes : (read : HeaderRead) → headerOf packet ≡ read → Closes (headerSeen receiver read (textOf packet .bytes) lent)
+  unfolding headerSeen headerTaken justClosed
+  read-closes (header.Good found) r =
+      chosen Closes (matches (receiver .selection) found) (headerTaken receiver found (textOf packet .bytes) lent) (justClosed receiver 3 lent)
+      (λ m. (refl, refl)) (λ m. (refl, refl))
+  read-closes header.Spoiled r = (refl, refl)
+  read-closes header.WrongLength r = absurd (header-not-short packet whole r)
+
+  pub header-closes : (taken receiver packet lent .closing ≡ closingWord receiver) × (taken receiver packet lent .lent ≡ lentAfter receiver lent)
+  header-closes =
+      subst Closes (sym (taken-header receiver packet lent ours refl)) (read-closes (headerOf packet) refl)
+
+-- an open page without doubt closes clean
+pub closes-clean : (receiver : Receiver) → receiver .«open» ≡ true → receiver .doubt ≡ false → closingWord receiver ≡ closing.Clean
+unfolding closingWord
+closes-clean receiver o d = ap₂ word o d

@@ -3,7 +3,7 @@ use mathlib.Core.Path.{_≡_, refl, _∙_, ap, sym, subst}
 use mathlib.Core.Bool.{Bool, true, false, _||_}
 use mathlib.Core.List.{List}
 use mathlib.Core.Option.{Option, some}
-use Prim.Native.Nat.{ℕ, _≤_, _<_}
+use Prim.Native.Nat.{ℕ, _-_, _≤_, _<_}
 use native.Mathlib.Omega.{arith}
 use lib.Dec.{lit<, lit≤}
 use lib.ListN.{getD}
@@ -18,10 +18,10 @@ use Rattle.receiver.specs.declared.Receiver.{Receiver}
 use Rattle.receiver.proofs.Carried.{Whole}
 use Rattle.receiver.proofs.Effects.{Opens, Stores}
 use Rattle.receiver.proofs.Marks.{none-fresh-at, opened-none-fresh}
-use Rattle.receiver.proofs.Rows.{Stays, characterAt, markAt, place, stored-other-row, text-first}
+use Rattle.receiver.proofs.Rows.{Stays, characterAt, length-found, markAt, place, stored-other-row, text-first}
 use Rattle.receiver.proofs.Shows.{OurText}
 use Rattle.receiver.proofs.Sized.{Sized, closed-cells, opened-sized}
-use Rattle.receiver.proofs.Undoubted.{length-text, stored-fresh}
+use Rattle.receiver.proofs.Undoubted.{all-counted, length-text, stored-fresh}
 
 -- a column's byte has the character of its cell, and the cell is fresh
 abbrev pub Shown : List ℕ → Cells → ℕ → ℕ → Type 0
@@ -69,6 +69,14 @@ module _ (receiver : Receiver) (packet lent : List ℕ) (outcome : Outcome) (ope
       (opened-sized (closed receiver) (opens .found) (rw (closed-cells receiver) sized))
       (lit< tt)
       (sym opening-doubt ∙ sure))
+
+  -- and all 32 bytes are counted
+  pub opening-count : outcome .receiver .doubt ≡ false → outcome .count ≡ columns - headerColumn
+  unfolding headerTaken firstColumn
+  opening-count sure =
+      ap (λ (o : Outcome). o .count) (opens .gives)
+      ∙ (all-counted (rowFound 0 (textOf packet .bytes)) (sym opening-doubt ∙ sure)
+      ∙ length-found 0 (textOf packet .bytes) (length-text packet))
 
 -- ---- kind 1
 
