@@ -1,22 +1,19 @@
 -- What a line carries over: the selection always; the cells unless a row is stored or a page opened. And a page that is open and without doubt after a
 -- line was opened by it, or was so before it and the line did no harm.
-use mathlib.Core.Path.{_≡_, refl, _∙_, ap, sym, subst}
-use mathlib.Core.Bool.{Bool, true, false, cond, not, _&&_, _||_}
+use mathlib.Core.Path.{_≡_, refl, sym, subst}
+use mathlib.Core.Bool.{Bool, true, false, not, _||_}
 use mathlib.Core.List.{List}
 use mathlib.Core.Logic.{_⊎_, inl, inr}
 use Prim.Native.Nat.{ℕ}
 use native.Mathlib.Omega.{arith}
-use lib.Dec.{T, T-not, not-T}
-use Rattle.laws.proofs.Bools.{passed}
+use lib.Dec.{T, T-not}
 use Rattle.laws.proofs.Keeps.{chosen}
 use Rattle.packet.specs.Texts.{textOf}
-use Rattle.receiver.specs.Cells.{oneMissing, rowFound, stored}
-use Rattle.receiver.specs.Lines.{Outcome, Seen, closed, doubted, headerTaken, justClosed, nothing, opened, rowStored, shut, taken, textTaken}
+use Rattle.receiver.specs.Cells.{oneMissing, rowFound}
+use Rattle.receiver.specs.Lines.{Outcome, closed, doubted, headerTaken, justClosed, nothing, opened, rowStored, shut, taken, textTaken}
 use Rattle.receiver.specs.declared.Receiver.{Receiver}
-use Rattle.receiver.specs.declared.Selection.{Selection}
 use Rattle.receiver.proofs.Effects.{Stores, by-effects, doubtOnly}
 use Rattle.receiver.proofs.Lawful.{closed-selection}
-use Rattle.receiver.proofs.Shows.{OurText}
 use Rattle.receiver.proofs.Sized.{closed-cells}
 
 -- after closing no page is open

@@ -5,18 +5,16 @@ use mathlib.Core.List.{List, [], _∷_, map}
 use mathlib.Core.Option.{Option, none, some}
 use Prim.Native.Nat.{ℕ, _+_, _%_}
 use native.Mathlib.Nat.{zero-add}
-use native.Mathlib.Omega.{arith}
 use lib.Count.{ones}
 use lib.ListN.{drop}
 use Rattle.coding.specs.Bits.{odd}
 use Rattle.coding.specs.Characters.{character}
 use Rattle.packet.specs.Texts.{headerColumn, textOf}
 use Rattle.receiver.specs.Cells.{firstColumn, howMany, rowFound}
-use Rattle.receiver.specs.Lines.{Outcome, Seen, headerTaken, justClosed, nothing, taken, text, textTaken}
+use Rattle.receiver.specs.Lines.{Outcome, headerTaken, justClosed, nothing, taken, textTaken}
 use Rattle.receiver.specs.declared.Receiver.{Receiver}
-use Rattle.receiver.proofs.Effects.{Opens, Stores, by-effects, kind-1-stores, kind-2-opens, seenBy}
-use Rattle.receiver.proofs.Rows.{header-first, text-first}
-use Rattle.receiver.proofs.Shows.{OurText}
+use Rattle.receiver.proofs.Effects.{by-effects, kind-1-stores, kind-2-opens}
+use Rattle.receiver.proofs.Rows.{text-first}
 
 -- how many bytes have an odd count of ones
 unfoldable pub oddBytes : List ℕ → ℕ

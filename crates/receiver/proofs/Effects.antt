@@ -7,10 +7,10 @@ use mathlib.Core.Option.{Option, none, some}
 use Prim.Native.Nat.{ℕ, _≤_}
 use native.Mathlib.Omega.{arith}
 use borrow.Author.Tests.{eq-eqb}
-use lib.Dec.{T, eqb}
+use lib.Dec.{T}
 use lib.ListN.{drop, length, length-append, length-drop}
 use lib.Seq.{drop-at}
-use Rattle.laws.specs.Fields.{bytesOf, fieldsBits}
+use Rattle.laws.specs.Fields.{fieldsBits}
 use Rattle.laws.proofs.Fields.{length-bytes}
 use Rattle.laws.proofs.Bools.{both-left}
 use Rattle.laws.proofs.Keeps.{chosen}
@@ -24,7 +24,7 @@ use Rattle.packet.specs.declared.HeaderRead.{HeaderRead}
 use Rattle.packet.specs.declared.HeaderRead.the-variants as header
 use Rattle.page.specs.Records.{recordLength, recordOf, recordWidths, valuesOf}
 use Rattle.page.specs.declared.Page.{Page}
-use Rattle.receiver.specs.Lines.{Outcome, Seen, closed, closingWord, doubted, effect, headerSeen, headerTaken, held, justClosed, lentAfter, nothing, ourHeader, passed, seen, taken, text, textTaken, unsure, unsureTaken}
+use Rattle.receiver.specs.Lines.{Outcome, Seen, closingWord, doubted, effect, headerSeen, headerTaken, held, justClosed, lentAfter, nothing, ourHeader, passed, seen, taken, text, textTaken, unsure, unsureTaken}
 use Rattle.receiver.specs.Selections.{matches}
 use Rattle.receiver.specs.declared.Closing.{Closing}
 use Rattle.receiver.specs.declared.Closing.the-variants as closing
@@ -59,41 +59,41 @@ OurHeader receiver packet = addressOf packet ≡ address.Whole (receiver .select
 
 -- what holds of each effect of the table, with what led there, holds of a line's outcome
 module _ (receiver : Receiver) (packet lent : List ℕ) (P : Outcome → Type 0)
-  (pass : P (nothing receiver lent))
-  (store : (row : ℕ) → OurText (receiver .selection) (receiver .«open») (addressOf packet) row → P (textTaken receiver row (textOf packet .bytes) lent))
-  (opens : OurHeader receiver packet → (found : Header) → headerOf packet ≡ header.Good found → T (matches (receiver .selection) found)
+    (pass : P (nothing receiver lent))
+    (store : (row : ℕ) → OurText (receiver .selection) (receiver .«open») (addressOf packet) row → P (textTaken receiver row (textOf packet .bytes) lent))
+    (opens : OurHeader receiver packet → (found : Header) → headerOf packet ≡ header.Good found → T (matches (receiver .selection) found)
     → P (headerTaken receiver found (textOf packet .bytes) lent))
-  (other : OurHeader receiver packet → (found : Header) → headerOf packet ≡ header.Good found → T (not (matches (receiver .selection) found))
+    (other : OurHeader receiver packet → (found : Header) → headerOf packet ≡ header.Good found → T (not (matches (receiver .selection) found))
     → P (justClosed receiver 3 lent))
-  (spoiled : OurHeader receiver packet → headerOf packet ≡ header.Spoiled → P (justClosed receiver 5 lent))
-  (short : OurHeader receiver packet → headerOf packet ≡ header.WrongLength → P (nothing receiver lent))
-  (closes : T (receiver .«open») → P (justClosed (doubted receiver) 4 lent))
-  (leaves : (could : Bool) → T (not (receiver .«open» && could)) → P (doubtOnly receiver lent))
+    (spoiled : OurHeader receiver packet → headerOf packet ≡ header.Spoiled → P (justClosed receiver 5 lent))
+    (short : OurHeader receiver packet → headerOf packet ≡ header.WrongLength → P (nothing receiver lent))
+    (closes : T (receiver .«open») → P (justClosed (doubted receiver) 4 lent))
+    (leaves : (could : Bool) → T (not (receiver .«open» && could)) → P (doubtOnly receiver lent))
   where
-  by-header : OurHeader receiver packet → (read : HeaderRead) → headerOf packet ≡ read → P (headerSeen receiver read (textOf packet .bytes) lent)
-  unfolding headerSeen
-  by-header a (header.Good found) e =
-      chosen P (matches (receiver .selection) found) (headerTaken receiver found (textOf packet .bytes) lent) (justClosed receiver 3 lent)
-      (opens a found e) (other a found e)
-  by-header a header.Spoiled e = spoiled a e
-  by-header a header.WrongLength e = short a e
+    by-header : OurHeader receiver packet → (read : HeaderRead) → headerOf packet ≡ read → P (headerSeen receiver read (textOf packet .bytes) lent)
+    unfolding headerSeen
+    by-header a (header.Good found) e =
+        chosen P (matches (receiver .selection) found) (headerTaken receiver found (textOf packet .bytes) lent) (justClosed receiver 3 lent)
+        (opens a found e) (other a found e)
+    by-header a header.Spoiled e = spoiled a e
+    by-header a header.WrongLength e = short a e
 
-  by-unsure : (could : Bool) → P (unsureTaken receiver could lent)
-  unfolding unsureTaken
-  by-unsure could =
-      chosen P (receiver .«open» && could) (justClosed (doubted receiver) 4 lent) (doubtOnly receiver lent)
-      (λ t. closes (both-left (receiver .«open») could t)) (leaves could)
+    by-unsure : (could : Bool) → P (unsureTaken receiver could lent)
+    unfolding unsureTaken
+    by-unsure could =
+        chosen P (receiver .«open» && could) (justClosed (doubted receiver) 4 lent) (doubtOnly receiver lent)
+        (λ t. closes (both-left (receiver .«open») could t)) (leaves could)
 
-  by-effect : (s : Seen) → seenBy receiver packet ≡ s → P (effect receiver s packet lent)
-  unfolding effect
-  by-effect passed e = pass
-  by-effect (text row) e = store row (seen-text (receiver .selection) (receiver .«open») (addressOf packet) row e)
-  by-effect ourHeader e = by-header (seen-header (receiver .selection) (receiver .«open») (addressOf packet) e) (headerOf packet) refl
-  by-effect (unsure could) e = by-unsure could
+    by-effect : (s : Seen) → seenBy receiver packet ≡ s → P (effect receiver s packet lent)
+    unfolding effect
+    by-effect passed e = pass
+    by-effect (text row) e = store row (seen-text (receiver .selection) (receiver .«open») (addressOf packet) row e)
+    by-effect ourHeader e = by-header (seen-header (receiver .selection) (receiver .«open») (addressOf packet) e) (headerOf packet) refl
+    by-effect (unsure could) e = by-unsure could
 
-  pub by-effects : P (taken receiver packet lent)
-  unfolding taken
-  by-effects = by-effect (seenBy receiver packet) refl
+    pub by-effects : P (taken receiver packet lent)
+    unfolding taken
+    by-effects = by-effect (seenBy receiver packet) refl
 
 -- ---- kinds
 
@@ -118,8 +118,7 @@ module _ (receiver : Receiver) (packet lent : List ℕ) where
       × (taken receiver packet lent .closing ≡ closing.None) × (taken receiver packet lent .lent ≡ lent)
   unfolding nothing
   kind-0-parts e =
-      let n = kind-0-nothing e in
-      (
+      let n = kind-0-nothing e in (
         ap (λ (o : Outcome). o .receiver) n,
         ap (λ (o : Outcome). o .count) n,
         ap (λ (o : Outcome). o .closing) n,

@@ -1,25 +1,21 @@
 -- What an opening and a stored row do to the page, cell by cell.
-use mathlib.Core.Path.{_≡_, refl, _∙_, ap, sym, subst}
-use mathlib.Core.Bool.{Bool, true, false, _||_}
+use mathlib.Core.Path.{_≡_, _∙_, ap, sym, subst}
+use mathlib.Core.Bool.{true, false, _||_}
 use mathlib.Core.List.{List}
-use mathlib.Core.Option.{Option, some}
+use mathlib.Core.Option.{some}
 use Prim.Native.Nat.{ℕ, _-_, _≤_, _<_}
 use native.Mathlib.Omega.{arith}
-use lib.Dec.{lit<, lit≤}
+use lib.Dec.{lit<}
 use lib.ListN.{getD}
 use Rattle.coding.specs.Characters.{character}
 use Rattle.packet.specs.Texts.{columns, headerColumn, textOf}
-use Rattle.packet.specs.declared.Header.{Header}
-use Rattle.page.specs.Records.{rows}
 use Rattle.page.specs.declared.Cells.{Cells}
 use Rattle.receiver.specs.Cells.{firstColumn, fresh, oneMissing, rowFound, stored}
-use Rattle.receiver.specs.Lines.{Outcome, closed, headerTaken, opened, rowStored, taken, textTaken}
+use Rattle.receiver.specs.Lines.{Outcome, closed, headerTaken, opened, rowStored, textTaken}
 use Rattle.receiver.specs.declared.Receiver.{Receiver}
-use Rattle.receiver.proofs.Carried.{Whole}
 use Rattle.receiver.proofs.Effects.{Opens, Stores}
 use Rattle.receiver.proofs.Marks.{none-fresh-at, opened-none-fresh}
 use Rattle.receiver.proofs.Rows.{Stays, characterAt, length-found, markAt, place, stored-other-row, text-first}
-use Rattle.receiver.proofs.Shows.{OurText}
 use Rattle.receiver.proofs.Sized.{Sized, closed-cells, opened-sized}
 use Rattle.receiver.proofs.Undoubted.{all-counted, length-text, stored-fresh}
 

@@ -1,6 +1,6 @@
 -- A row without doubt: each of its bytes has odd parity, all are counted and all of its cells are fresh.
 use mathlib.Core.Path.{_≡_, refl, _∙_, ap, sym}
-use mathlib.Core.Bool.{Bool, true, false, cond, _||_}
+use mathlib.Core.Bool.{false}
 use mathlib.Core.List.{List, [], _∷_}
 use mathlib.Core.Option.{Option, none, some}
 use Prim.Native.Nat.{ℕ, zero, suc, _-_, _≤_, _<_}
@@ -14,7 +14,6 @@ use Rattle.coding.specs.Characters.{character}
 use Rattle.packet.specs.Lines.{packetLength}
 use Rattle.packet.specs.Texts.{columns, textOf}
 use Rattle.packet.specs.declared.Text.{Text}
-use Rattle.packet.specs.declared.TextRead.the-variants.{Read, WrongLength}
 use Rattle.packet.proofs.Bytes.{length-bytes}
 use Rattle.page.specs.Records.{rows}
 use Rattle.page.specs.declared.Cells.{Cells}

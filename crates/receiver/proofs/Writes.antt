@@ -19,7 +19,7 @@ use Rattle.receiver.specs.Lines.{held, lentAfter}
 use Rattle.receiver.specs.Selections.{inRange, matches, timeMatches, whenInRange}
 use Rattle.receiver.specs.declared.Receiver.{Receiver}
 use Rattle.receiver.proofs.Effects.{lent-open}
-use Rattle.receiver.proofs.Lawful.{Parts, open-matches, parts}
+use Rattle.receiver.proofs.Lawful.{open-matches, parts}
 
 -- the writer's three tests, each passed
 all-passed : (a b c : Bool) → T a → T b → T c → cond a (cond b (cond c Written UnlawfulCells) BadDigit) TooLarge ≡ Written
