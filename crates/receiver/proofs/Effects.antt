@@ -229,6 +229,10 @@ module _ (receiver : Receiver) where
   unfolding closingWord
   none-was-open = word-none (receiver .«open») (receiver .doubt)
 
+  pub none-open : receiver .«open» ≡ false → closingWord receiver ≡ closing.None
+  unfolding closingWord
+  none-open o = ap (λ (b : Bool). word b (receiver .doubt)) o
+
   -- clean: one was, and without doubt
   pub clean-was-open : closingWord receiver ≡ closing.Clean → (receiver .«open» ≡ true) × (receiver .doubt ≡ false)
   unfolding closingWord

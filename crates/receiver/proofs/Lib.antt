@@ -8,6 +8,7 @@ pub mod Laid
 pub mod Lawful
 pub mod Laying
 pub mod Marks
+pub mod Resting
 pub mod Rows
 pub mod Shows
 pub mod Sized
