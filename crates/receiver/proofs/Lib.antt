@@ -1,4 +1,5 @@
 pub mod Carried
+pub mod Closings
 pub mod Counts
 pub mod Effects
 pub mod Entering

@@ -20,7 +20,8 @@ use Rattle.receiver.specs.Lines.{Outcome, closingWord, doubted, headerTa
 use Rattle.receiver.specs.Selections.{inRange, matches, timeMatches, whenInRange}
 use Rattle.receiver.specs.declared.Closing.the-variants as closing
 use Rattle.receiver.specs.declared.Receiver.{Receiver}
-use Rattle.receiver.proofs.Effects.{by-effects, lent-open, none-open}
+use Rattle.receiver.proofs.Closings.{lent-open, none-open}
+use Rattle.receiver.proofs.Effects.{by-effects}
 use Rattle.receiver.proofs.Lawful.{doubted-lawful, open-matches, parts}
 
 -- the writer's three tests, each passed
