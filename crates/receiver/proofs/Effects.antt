@@ -5,7 +5,7 @@ use mathlib.Core.List.{List}
 use Prim.Native.Nat.{ℕ}
 use native.Mathlib.Omega.{arith}
 use lib.Dec.{T}
-use Rattle.laws.proofs.Bools.{both-left}
+use Rattle.laws.proofs.Bools.{both-left, both-right}
 use Rattle.laws.proofs.Keeps.{chosen}
 use Rattle.packet.specs.Addresses.{addressOf}
 use Rattle.packet.specs.Headers.{headerOf}
@@ -18,7 +18,7 @@ use Rattle.receiver.specs.Lines.{Outcome, Seen, doubted, effect, headerS
 use Rattle.receiver.specs.Selections.{matches}
 use Rattle.receiver.specs.declared.Closing.the-variants as closing
 use Rattle.receiver.specs.declared.Receiver.{Receiver}
-use Rattle.receiver.proofs.Shows.{OurText, seen-header, seen-text}
+use Rattle.receiver.proofs.Shows.{MayBeOurs, OurText, Passes, seen-header, seen-passed, seen-text, seen-unsure}
 
 -- what the address of a packet shows to a receiver
 abbrev pub seenBy : Receiver → List ℕ → Seen
@@ -43,7 +43,7 @@ OurHeader receiver packet = addressOf packet ≡ address.Whole (receiver .select
 
 -- what holds of each effect of the table, with what led there, holds of a line's outcome
 module _ (receiver : Receiver) (packet lent : List ℕ) (P : Outcome → Type 0)
-    (pass : P (nothing receiver lent))
+    (pass : Passes (receiver .selection) (receiver .«open») (addressOf packet) → P (nothing receiver lent))
     (store : (row : ℕ) → OurText (receiver .selection) (receiver .«open») (addressOf packet) row → P (textTaken receiver row (textOf packet .bytes) lent))
     (opens : OurHeader receiver packet → (found : Header) → headerOf packet ≡ header.Good found → T (matches (receiver .selection) found)
     → P (headerTaken receiver found (textOf packet .bytes) lent))
@@ -51,8 +51,8 @@ module _ (receiver : Receiver) (packet lent : List ℕ) (P : Outcome → Type 0)
     → P (justClosed receiver 3 lent))
     (spoiled : OurHeader receiver packet → headerOf packet ≡ header.Spoiled → P (justClosed receiver 5 lent))
     (short : OurHeader receiver packet → headerOf packet ≡ header.WrongLength → P (nothing receiver lent))
-    (closes : T (receiver .«open») → P (justClosed (doubted receiver) 4 lent))
-    (leaves : (could : Bool) → T (not (receiver .«open» && could)) → P (doubtOnly receiver lent))
+    (closes : MayBeOurs (receiver .selection) (addressOf packet) true → T (receiver .«open») → P (justClosed (doubted receiver) 4 lent))
+    (leaves : (could : Bool) → MayBeOurs (receiver .selection) (addressOf packet) could → T (not (receiver .«open» && could)) → P (doubtOnly receiver lent))
   where
     by-header : OurHeader receiver packet → (read : HeaderRead) → headerOf packet ≡ read → P (headerSeen receiver read (textOf packet .bytes) lent)
     unfolding headerSeen
@@ -62,18 +62,21 @@ module _ (receiver : Receiver) (packet lent : List ℕ) (P : Outcome → Type 0)
     by-header a header.Spoiled e = spoiled a e
     by-header a header.WrongLength e = short a e
 
-    by-unsure : (could : Bool) → P (unsureTaken receiver could lent)
+    by-unsure : (could : Bool) → MayBeOurs (receiver .selection) (addressOf packet) could → P (unsureTaken receiver could lent)
     unfolding unsureTaken
-    by-unsure could =
-        chosen P (receiver .«open» && could) (justClosed (doubted receiver) 4 lent) (doubtOnly receiver lent)
-        (λ t. closes (both-left (receiver .«open») could t)) (leaves could)
+    by-unsure true u =
+        chosen P (receiver .«open» && true) (justClosed (doubted receiver) 4 lent) (doubtOnly receiver lent)
+        (λ t. closes u (both-left (receiver .«open») true t)) (leaves true u)
+    by-unsure false u =
+        chosen P (receiver .«open» && false) (justClosed (doubted receiver) 4 lent) (doubtOnly receiver lent)
+        (λ t. absurd (both-right (receiver .«open») false t)) (leaves false u)
 
     by-effect : (s : Seen) → seenBy receiver packet ≡ s → P (effect receiver s packet lent)
     unfolding effect
-    by-effect passed e = pass
+    by-effect passed e = pass (seen-passed (receiver .selection) (receiver .«open») (addressOf packet) e)
     by-effect (text row) e = store row (seen-text (receiver .selection) (receiver .«open») (addressOf packet) row e)
     by-effect ourHeader e = by-header (seen-header (receiver .selection) (receiver .«open») (addressOf packet) e) (headerOf packet) refl
-    by-effect (unsure could) e = by-unsure could
+    by-effect (unsure could) e = by-unsure could (seen-unsure (receiver .selection) (receiver .«open») (addressOf packet) could e)
 
     pub by-effects : P (taken receiver packet lent)
     unfolding taken
@@ -87,14 +90,14 @@ module _ (receiver : Receiver) (packet lent : List ℕ) where
   unfolding nothing textTaken headerTaken justClosed
   kind-0-nothing =
       by-effects receiver packet lent (λ (o : Outcome). o .kind ≡ 0 → o ≡ nothing receiver lent)
-      (λ e. refl)
+      (λ p e. refl)
       (λ row t e. absurd (omega arith))
       (λ a found r m e. absurd (omega arith))
       (λ a found r m e. absurd (omega arith))
       (λ a r e. absurd (omega arith))
       (λ a r e. refl)
-      (λ o e. absurd (omega arith))
-      (λ could o e. absurd (omega arith))
+      (λ u o e. absurd (omega arith))
+      (λ could u o e. absurd (omega arith))
 
   -- the receiver handed in, nothing counted, nothing closed, nothing written
   pub kind-0-parts : taken receiver packet lent .kind ≡ 0
@@ -128,27 +131,27 @@ module _ (receiver : Receiver) (packet lent : List ℕ) where
   unfolding nothing headerTaken justClosed
   kind-1-stores =
       by-effects receiver packet lent (λ (o : Outcome). o .kind ≡ 1 → Stores receiver packet lent o)
-      (λ e. absurd (omega arith))
+      (λ p e. absurd (omega arith))
       (λ row t e. record { row = row; ours = t; gives = refl })
       (λ a found r m e. absurd (omega arith))
       (λ a found r m e. absurd (omega arith))
       (λ a r e. absurd (omega arith))
       (λ a r e. absurd (omega arith))
-      (λ o e. absurd (omega arith))
-      (λ could o e. absurd (omega arith))
+      (λ u o e. absurd (omega arith))
+      (λ could u o e. absurd (omega arith))
 
   pub kind-2-opens : taken receiver packet lent .kind ≡ 2 → Opens receiver packet lent (taken receiver packet lent)
   unfolding nothing textTaken justClosed
   kind-2-opens =
       by-effects receiver packet lent (λ (o : Outcome). o .kind ≡ 2 → Opens receiver packet lent o)
-      (λ e. absurd (omega arith))
+      (λ p e. absurd (omega arith))
       (λ row t e. absurd (omega arith))
       (λ a found r m e. record { found = found; ours = a; read = r; matched = m; gives = refl })
       (λ a found r m e. absurd (omega arith))
       (λ a r e. absurd (omega arith))
       (λ a r e. absurd (omega arith))
-      (λ o e. absurd (omega arith))
-      (λ could o e. absurd (omega arith))
+      (λ u o e. absurd (omega arith))
+      (λ could u o e. absurd (omega arith))
 
 -- ---- and forth: from what was seen to the outcome
 

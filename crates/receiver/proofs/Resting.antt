@@ -101,14 +101,14 @@ module _ (receiver : Receiver) (packet lent : List ℕ) where
   unfolding nothing textTaken headerTaken justClosed
   kind-most =
       by-effects receiver packet lent (λ (o : Outcome). o .kind ≤ 5)
-      (lit≤ tt)
+      (λ p. lit≤ tt)
       (λ row t. lit≤ tt)
       (λ a found r m. lit≤ tt)
       (λ a found r m. lit≤ tt)
       (λ a r. lit≤ tt)
       (λ a r. lit≤ tt)
-      (λ o. lit≤ tt)
-      (λ could o. lit≤ tt)
+      (λ u o. lit≤ tt)
+      (λ could u o. lit≤ tt)
 
   row-count : (row : ℕ) → howMany (rowFound row (textOf packet .bytes)) ≤ columns
   row-count row =
@@ -118,11 +118,11 @@ module _ (receiver : Receiver) (packet lent : List ℕ) where
   unfolding nothing textTaken headerTaken justClosed
   count-at-most =
       by-effects receiver packet lent (λ (o : Outcome). o .count ≤ columns)
-      (lit≤ tt)
+      (λ p. lit≤ tt)
       (λ row t. row-count row)
       (λ a found r m. row-count 0)
       (λ a found r m. lit≤ tt)
       (λ a r. lit≤ tt)
       (λ a r. lit≤ tt)
-      (λ o. lit≤ tt)
-      (λ could o. lit≤ tt)
+      (λ u o. lit≤ tt)
+      (λ could u o. lit≤ tt)
