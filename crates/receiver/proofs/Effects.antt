@@ -1,12 +1,13 @@
--- What a line's kind shows: kind 0 changes nothing, kinds 1 and 2 are a stored row and an opening. And from what was seen of a line to its outcome.
+-- What a line's kind shows, each as the table has it: what led there, and the effect. And from what was seen of a line to its outcome.
 use mathlib.Core.Path.{_≡_, refl, _∙_, ap}
 use mathlib.Core.Bool.{Bool, true, false, cond, not, _&&_}
 use mathlib.Core.List.{List}
+use mathlib.Core.Logic.{_⊎_, inl, inr}
 use Prim.Native.Nat.{ℕ}
 use native.Mathlib.Omega.{arith}
 use lib.Dec.{T}
 use Rattle.laws.proofs.Bools.{both-left, both-right}
-use Rattle.laws.proofs.Keeps.{chosen}
+use Rattle.laws.proofs.Keeps.{both, chosen}
 use Rattle.packet.specs.Addresses.{addressOf}
 use Rattle.packet.specs.Headers.{headerOf}
 use Rattle.packet.specs.Texts.{textOf}
@@ -149,6 +150,67 @@ module _ (receiver : Receiver) (packet lent : List ℕ) where
       (λ a found r m e. record { found = found; ours = a; read = r; matched = m; gives = refl })
       (λ a found r m e. absurd (omega arith))
       (λ a r e. absurd (omega arith))
+      (λ a r e. absurd (omega arith))
+      (λ u o e. absurd (omega arith))
+      (λ could u o e. absurd (omega arith))
+
+-- kind 3: another page's header
+pub record Others (receiver : Receiver) (packet lent : List ℕ) (outcome : Outcome) : Type 0 where
+  pub found : Header
+  pub ours : OurHeader receiver packet
+  pub read : headerOf packet ≡ header.Good found
+  pub unmatched : T (not (matches (receiver .selection) found))
+  pub gives : outcome ≡ justClosed receiver 3 lent
+
+-- kind 4: it closes just where a page is open and the line could have been row 0
+pub record Unsure (receiver : Receiver) (packet lent : List ℕ) (outcome : Outcome) : Type 0 where
+  pub could : Bool
+  pub may : MayBeOurs (receiver .selection) (addressOf packet) could
+  pub gives : (T (receiver .«open» && could) × (outcome ≡ justClosed (doubted receiver) 4 lent))
+      ⊎ (T (not (receiver .«open» && could)) × (outcome ≡ doubtOnly receiver lent))
+
+-- kind 5: our row 0, spoiled
+pub record Spoils (receiver : Receiver) (packet lent : List ℕ) (outcome : Outcome) : Type 0 where
+  pub ours : OurHeader receiver packet
+  pub read : headerOf packet ≡ header.Spoiled
+  pub gives : outcome ≡ justClosed receiver 5 lent
+
+module _ (receiver : Receiver) (packet lent : List ℕ) where
+  pub kind-3-closes : taken receiver packet lent .kind ≡ 3 → Others receiver packet lent (taken receiver packet lent)
+  unfolding nothing textTaken headerTaken justClosed
+  kind-3-closes =
+      by-effects receiver packet lent (λ (o : Outcome). o .kind ≡ 3 → Others receiver packet lent o)
+      (λ p e. absurd (omega arith))
+      (λ row t e. absurd (omega arith))
+      (λ a found r m e. absurd (omega arith))
+      (λ a found r m e. record { found = found; ours = a; read = r; unmatched = m; gives = refl })
+      (λ a r e. absurd (omega arith))
+      (λ a r e. absurd (omega arith))
+      (λ u o e. absurd (omega arith))
+      (λ could u o e. absurd (omega arith))
+
+  pub kind-4-unsure : taken receiver packet lent .kind ≡ 4 → Unsure receiver packet lent (taken receiver packet lent)
+  unfolding nothing textTaken headerTaken justClosed
+  kind-4-unsure =
+      by-effects receiver packet lent (λ (o : Outcome). o .kind ≡ 4 → Unsure receiver packet lent o)
+      (λ p e. absurd (omega arith))
+      (λ row t e. absurd (omega arith))
+      (λ a found r m e. absurd (omega arith))
+      (λ a found r m e. absurd (omega arith))
+      (λ a r e. absurd (omega arith))
+      (λ a r e. absurd (omega arith))
+      (λ u o e. record { could = true; may = u; gives = inl (both (receiver .«open») true o tt, refl) })
+      (λ could u o e. record { could = could; may = u; gives = inr (o, refl) })
+
+  pub kind-5-closes : taken receiver packet lent .kind ≡ 5 → Spoils receiver packet lent (taken receiver packet lent)
+  unfolding nothing textTaken headerTaken justClosed
+  kind-5-closes =
+      by-effects receiver packet lent (λ (o : Outcome). o .kind ≡ 5 → Spoils receiver packet lent o)
+      (λ p e. absurd (omega arith))
+      (λ row t e. absurd (omega arith))
+      (λ a found r m e. absurd (omega arith))
+      (λ a found r m e. absurd (omega arith))
+      (λ a r e. record { ours = a; read = r; gives = refl })
       (λ a r e. absurd (omega arith))
       (λ u o e. absurd (omega arith))
       (λ could u o e. absurd (omega arith))
