@@ -74,6 +74,21 @@ pub record Passed (receiver : Receiver) (packet lent : List ℕ) (outcome : Outc
   pub passes : Passes (receiver .selection) (receiver .«open») (addressOf packet)
   pub gives : outcome ≡ nothing receiver lent
 
+-- kind 0 of a packet of 42 bytes
+pub kind-0-passes : (receiver : Receiver) (packet lent : List ℕ) → length packet ≡ packetLength → taken receiver packet lent .kind ≡ 0
+    → Passed receiver packet lent (taken receiver packet lent)
+unfolding nothing textTaken headerTaken justClosed
+kind-0-passes receiver packet lent whole =
+    by-effects receiver packet lent (λ (o : Outcome). o .kind ≡ 0 → Passed receiver packet lent o)
+    (λ p e. record { passes = p; gives = refl })
+    (λ row t e. absurd (omega arith))
+    (λ a found r m e. absurd (omega arith))
+    (λ a found r m e. absurd (omega arith))
+    (λ a r e. absurd (omega arith))
+    (λ a r e. absurd (header-not-short packet whole r))
+    (λ u o e. absurd (omega arith))
+    (λ could u o e. absurd (omega arith))
+
 or-false : (a b : Bool) → a || b ≡ false → (a ≡ false) × (b ≡ false)
 or-false true b e = (e, cc)
 or-false false b e = (refl, e)
