@@ -1,14 +1,14 @@
 -- What a line carries over: the selection always; the cells unless a row is stored or a page opened. And a page that is open and without doubt after a
 -- line was opened by it, or was so before it and the line did no harm.
 use mathlib.Core.Path.{_≡_, refl, sym, subst}
-use mathlib.Core.Bool.{Bool, true, false, not, _||_}
+use mathlib.Core.Bool.{Bool, true, false, _||_}
 use mathlib.Core.List.{List}
 use mathlib.Core.Logic.{_⊎_, inl, inr}
 use Prim.Native.Nat.{ℕ}
 use native.Mathlib.Omega.{arith}
 use lib.Dec.{T, T-not}
 use lib.ListN.{length}
-use Rattle.laws.proofs.Keeps.{chosen}
+use Rattle.laws.proofs.Keeps.{chosen, failed}
 use Rattle.packet.specs.Addresses.{addressOf}
 use Rattle.packet.specs.Lines.{packetLength}
 use Rattle.packet.specs.Texts.{textOf}
@@ -25,11 +25,7 @@ use Rattle.receiver.proofs.Sized.{closed-cells}
 pub closed-open : (receiver : Receiver) → closed receiver .«open» ≡ false
 unfolding closed shut
 closed-open receiver =
-    chosen (λ (r : Receiver). r .«open» ≡ false) (receiver .«open») (shut receiver) receiver (λ o. refl) (is-false (receiver .«open»))
-  where
-    is-false : (b : Bool) → T (not b) → b ≡ false
-    is-false true t = absurd t
-    is-false false t = refl
+    chosen (λ (r : Receiver). r .«open» ≡ false) (receiver .«open») (shut receiver) receiver (λ o. refl) (failed (receiver .«open»))
 
 module _ (receiver : Receiver) (packet lent : List ℕ) where
   pub taken-selection : taken receiver packet lent .receiver .selection ≡ receiver .selection
