@@ -9,27 +9,20 @@ use native.Mathlib.Omega.{arith}
 use borrow.Author.Tests.{eq-eqb}
 use lib.ListN.{drop, length, length-append, length-drop}
 use lib.Seq.{drop-at}
-use Rattle.laws.specs.Fields.{fieldsBits}
-use Rattle.laws.proofs.Fields.{length-bytes}
 use Rattle.laws.proofs.Keeps.{chosen}
 use Rattle.packet.specs.Headers.{allGood, headerMessages, headerOf, headerOr}
 use Rattle.packet.specs.Lines.{packetLength}
 use Rattle.packet.specs.Texts.{textOf}
 use Rattle.packet.specs.declared.HeaderRead.{HeaderRead}
 use Rattle.packet.specs.declared.HeaderRead.the-variants as header
-use Rattle.page.specs.Records.{recordLength, recordOf, recordWidths, valuesOf}
-use Rattle.page.specs.declared.Page.{Page}
+use Rattle.page.specs.Records.{recordLength, recordOf}
 use Rattle.receiver.specs.Lines.{Outcome, closingWord, doubted, headerSeen, headerTaken, held, justClosed, lentAfter, nothing, ourHeader, taken, textTaken}
 use Rattle.receiver.specs.Selections.{matches}
 use Rattle.receiver.specs.declared.Closing.{Closing}
 use Rattle.receiver.specs.declared.Closing.the-variants as closing
 use Rattle.receiver.specs.declared.Receiver.{Receiver}
+pub use Rattle.receiver.proofs.Effects.{length-record}
 use Rattle.receiver.proofs.Effects.{OurHeader, by-effects, seenBy, taken-header}
-
--- a record has 1,085 bytes
-pub length-record : (page : Page) → length (recordOf page) ≡ recordLength
-unfolding recordOf
-length-record page = length-bytes recordLength (fieldsBits recordWidths (valuesOf page))
 
 -- ---- closing words
 

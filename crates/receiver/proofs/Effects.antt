@@ -6,6 +6,9 @@ use mathlib.Core.Logic.{_⊎_, inl, inr}
 use Prim.Native.Nat.{ℕ}
 use native.Mathlib.Omega.{arith}
 use lib.Dec.{T}
+use lib.ListN.{length}
+use Rattle.laws.specs.Fields.{fieldsBits}
+use Rattle.laws.proofs.Fields.{length-bytes}
 use Rattle.laws.proofs.Bools.{both-left, both-right}
 use Rattle.laws.proofs.Keeps.{both, chosen}
 use Rattle.packet.specs.Addresses.{addressOf}
@@ -15,6 +18,8 @@ use Rattle.packet.specs.declared.Address.the-variants as address
 use Rattle.packet.specs.declared.Header.{Header}
 use Rattle.packet.specs.declared.HeaderRead.{HeaderRead}
 use Rattle.packet.specs.declared.HeaderRead.the-variants as header
+use Rattle.page.specs.Records.{recordLength, recordOf, recordWidths, valuesOf}
+use Rattle.page.specs.declared.Page.{Page}
 use Rattle.receiver.specs.Lines.{Outcome, Seen, doubted, effect, headerSeen, headerTaken, justClosed, nothing, ourHeader, passed, seen, taken, text, textTaken, unsure, unsureTaken}
 use Rattle.receiver.specs.Selections.{matches}
 use Rattle.receiver.specs.declared.Closing.the-variants as closing
@@ -24,6 +29,11 @@ use Rattle.receiver.proofs.Shows.{MayBeOurs, OurText, Passes, seen-head
 -- what the address of a packet shows to a receiver
 abbrev pub seenBy : Receiver → List ℕ → Seen
 seenBy receiver packet = seen (receiver .selection) (receiver .«open») (addressOf packet)
+
+-- a record has 1,085 bytes
+pub length-record : (page : Page) → length (recordOf page) ≡ recordLength
+unfolding recordOf
+length-record page = length-bytes recordLength (fieldsBits recordWidths (valuesOf page))
 
 -- the outcome of kind 4 that does not close
 abbrev pub doubtOnly : Receiver → List ℕ → Outcome
