@@ -58,7 +58,7 @@ unfolding digits
 digits-above zero above value = refl
 digits-above (suc width) above value =
     let twice : above * 2 ^ suc width ≡ (above * 2) * 2 ^ width =
-        ap (λ (n : ℕ). above * n) (pow-succ' 2 width) ∙ sym (mul-assoc above 2 (2 ^ width)) in
+    ap (λ (n : ℕ). above * n) (pow-succ' 2 width) ∙ sym (mul-assoc above 2 (2 ^ width)) in
     rw (twice, mul-add-div-right (pow-pos width) (above * 2) value, mul-add-mod-self-right above 2 (value / 2 ^ width), digits-above width (above * 2) value)
 
 pub binary-below : (bits : List ℕ) → AreBits bits → binary bits < 2 ^ length bits
@@ -86,7 +86,6 @@ binary-append (x ∷ xs) ys =
     rw (binary-append xs ys, length-append xs ys, pow-add 2 (length xs) (length ys), add-mul, mul-assoc) (omega arith)
 
 -- ---- runs of digits, one after another, as one number
-
 
 pub two-runs : (i j x y : ℕ) → binary (digits i x ++ digits j y) ≡ x % 2 ^ i * 2 ^ j + y % 2 ^ j
 two-runs i j x y =

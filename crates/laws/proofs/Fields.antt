@@ -28,9 +28,10 @@ unfolding everyPair fits
 fit-tested [] [] t = tt
 fit-tested [] (v ∷ values) t = absurd t
 fit-tested (w ∷ widths) [] t = absurd t
-fit-tested (w ∷ widths) (v ∷ values) t =
-    (ltb-true v (2 ^ w) (passed (ltb v (2 ^ w)) (both-left (ltb v (2 ^ w)) (everyPair fits widths values) t)),
-    fit-tested widths values (both-right (ltb v (2 ^ w)) (everyPair fits widths values) t))
+fit-tested (w ∷ widths) (v ∷ values) t = (
+  ltb-true v (2 ^ w) (passed (ltb v (2 ^ w)) (both-left (ltb v (2 ^ w)) (everyPair fits widths values) t)),
+  fit-tested widths values (both-right (ltb v (2 ^ w)) (everyPair fits widths values) t),
+)
 
 pub fit-append : (widths values widths′ values′ : List ℕ) → Fit widths values → Fit widths′ values′ → Fit (widths ++ widths′) (values ++ values′)
 fit-append [] [] widths′ values′ h k = k
@@ -74,10 +75,13 @@ read-back [] [] rest h = refl
 read-back [] (v ∷ values) rest h = absurd h
 read-back (w ∷ widths) [] rest h = absurd h
 read-back (w ∷ widths) (v ∷ values) rest h =
-    rw (append-assoc (digits w v) (fieldsBits widths values) rest,
-    take-at (digits w v) (fieldsBits widths values ++ rest) w (length-digits w v),
-    drop-at (digits w v) (fieldsBits widths values ++ rest) w (length-digits w v),
-    binary-digits-fit w v (h .0), read-back widths values rest (h .1))
+    rw (
+      append-assoc (digits w v) (fieldsBits widths values) rest,
+      take-at (digits w v) (fieldsBits widths values ++ rest) w (length-digits w v),
+      drop-at (digits w v) (fieldsBits widths values ++ rest) w (length-digits w v),
+      binary-digits-fit w v (h .0),
+      read-back widths values rest (h .1),
+    )
 
 pub fields-back : (widths values : List ℕ) → Fit widths values → fieldsOf widths (fieldsBits widths values) ≡ values
 fields-back widths values h = ap (fieldsOf widths) (sym (append-nil (fieldsBits widths values))) ∙ read-back widths values [] h

@@ -71,9 +71,9 @@ pub nine-bytes : (ms cs : List ℕ) → length ms ≡ 8 → length cs ≡ 8 → 
     (cellBytes 8 9 ms cs)
 nine-bytes ms cs hm hc =
     bytes-of-cut (getD ms 0 0) (getD ms 1 0) (getD ms 2 0) (getD ms 3 0) (getD ms 4 0) (getD ms 5 0) (getD ms 6 0) (getD ms 7 0)
-        (getD cs 0 0) (getD cs 1 0) (getD cs 2 0) (getD cs 3 0) (getD cs 4 0) (getD cs 5 0) (getD cs 6 0) (getD cs 7 0)
+    (getD cs 0 0) (getD cs 1 0) (getD cs 2 0) (getD cs 3 0) (getD cs 4 0) (getD cs 5 0) (getD cs 6 0) (getD cs 7 0)
     ∙ (group-bytes (getD ms 0 0) (getD ms 1 0) (getD ms 2 0) (getD ms 3 0) (getD ms 4 0) (getD ms 5 0) (getD ms 6 0) (getD ms 7 0)
-        (getD cs 0 0) (getD cs 1 0) (getD cs 2 0) (getD cs 3 0) (getD cs 4 0) (getD cs 5 0) (getD cs 6 0) (getD cs 7 0)
+    (getD cs 0 0) (getD cs 1 0) (getD cs 2 0) (getD cs 3 0) (getD cs 4 0) (getD cs 5 0) (getD cs 6 0) (getD cs 7 0)
     ∙ (ap (λ (xs : List ℕ). cellBytes 8 9 xs (tabulate (λ k. getD cs k 0) 0 8)) (sym (tabulated 8 ms hm))
     ∙ ap (λ (xs : List ℕ). cellBytes 8 9 ms xs) (sym (tabulated 8 cs hc))))
 

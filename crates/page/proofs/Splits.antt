@@ -60,11 +60,14 @@ module _ (count size : ℕ) (whole : 9 * count ≡ 8 * size) where
       let lc : length (take count cs) ≡ count = length-take-le count cs hc in
       ap (λ (xs : List ℕ). bytesOf (size + bytes) (fieldsBits (cellWidths (count + n)) (cellValues xs cs))) (sym (take-append-drop count ms))
       ∙ (ap (λ (xs : List ℕ). bytesOf (size + bytes) (fieldsBits (cellWidths (count + n)) (cellValues (take count ms ++ drop count ms) xs))) (sym (take-append-drop count cs))
-      ∙ (rw (widths-append count n, values-append (take count ms) (take count cs) (drop count ms) (drop count cs) (lm ∙ sym lc),
-      bits-of-append (cellWidths count) (cellValues (take count ms) (take count cs)) (cellWidths n) (cellValues (drop count ms) (drop count cs))
-          (length-widths count ∙ sym (length-values count (take count ms) (take count cs) lm lc)))
+      ∙ (rw (
+        widths-append count n,
+        values-append (take count ms) (take count cs) (drop count ms) (drop count cs) (lm ∙ sym lc),
+        bits-of-append (cellWidths count) (cellValues (take count ms) (take count cs)) (cellWidths n) (cellValues (drop count ms) (drop count cs))
+            (length-widths count ∙ sym (length-values count (take count ms) (take count cs) lm lc)),
+      )
       (bytes-append size bytes (fieldsBits (cellWidths count) (cellValues (take count ms) (take count cs)))
-          (fieldsBits (cellWidths n) (cellValues (drop count ms) (drop count cs))) (length-run (take count ms) (take count cs) lm lc))))
+      (fieldsBits (cellWidths n) (cellValues (drop count ms) (drop count cs))) (length-run (take count ms) (take count cs) lm lc))))
 
 -- ---- read
 

@@ -46,17 +46,17 @@ module _ (marks characters : List ℕ) where
     stored-more old new long e =
         let front = take (5 + group * 9) old ++ nineOf group in
         let size : length front ≡ 5 + group * 9 + 9 =
-            length-append (take (5 + group * 9) old) (nineOf group)
-            ∙ rw (length-take-le (5 + group * 9) old (omega arith), length-cell-bytes 8 9 (take 8 (drop (group * 8) marks)) (take 8 (drop (group * 8) characters))) in
+        length-append (take (5 + group * 9) old) (nineOf group)
+        ∙ rw (length-take-le (5 + group * 9) old (omega arith), length-cell-bytes 8 9 (take 8 (drop (group * 8) marks)) (take 8 (drop (group * 8) characters))) in
         let rest = 1085 - (5 + group * 9 + 9) in
         let kept : drop 1085 new ≡ drop 1085 old =
-            ap (drop 1085) e
-            ∙ (ap (λ (k : ℕ). drop k (front ++ drop (5 + group * 9 + 9) old)) (let s : 1085 ≡ length front + rest = omega (arith, size) in s)
-            ∙ (drop-append-add front (drop (5 + group * 9 + 9) old) rest
-            ∙ (drop-drop rest (5 + group * 9 + 9) old ∙ ap (λ (k : ℕ). drop k old) (let s : 5 + group * 9 + 9 + rest ≡ 1085 = omega arith in s)))) in
+        ap (drop 1085) e
+        ∙ (ap (λ (k : ℕ). drop k (front ++ drop (5 + group * 9 + 9) old)) (let s : 1085 ≡ length front + rest = omega (arith, size) in s)
+        ∙ (drop-append-add front (drop (5 + group * 9 + 9) old) rest
+        ∙ (drop-drop rest (5 + group * 9 + 9) old ∙ ap (λ (k : ℕ). drop k old) (let s : 5 + group * 9 + 9 + rest ≡ 1085 = omega arith in s)))) in
         let taken : take (5 + (group + 1) * 9) new ≡ front =
-            ap (take (5 + (group + 1) * 9)) e
-            ∙ take-at front (drop (5 + group * 9 + 9) old) (5 + (group + 1) * 9) (size ∙ (let s : 5 + group * 9 + 9 ≡ 5 + (group + 1) * 9 = omega arith in s)) in
+        ap (take (5 + (group + 1) * 9)) e
+        ∙ take-at front (drop (5 + group * 9 + 9) old) (5 + (group + 1) * 9) (size ∙ (let s : 5 + group * 9 + 9 ≡ 5 + (group + 1) * 9 = omega arith in s)) in
         rw (kept, taken, left-more)
         (append-assoc (take (5 + group * 9) old) (nineOf group) (leftFrom (group + 1) ++ drop 1085 old)
         ∙ ap (λ (xs : List ℕ). take (5 + group * 9) old ++ xs) (sym (append-assoc (nineOf group) (leftFrom (group + 1)) (drop 1085 old))))
@@ -67,8 +67,12 @@ module _ (marks characters : List ℕ) where
     stored-length old new long e =
         ap length e
         ∙ (length-append (take (5 + group * 9) old ++ nineOf group) (drop (5 + group * 9 + 9) old)
-        ∙ rw (length-append (take (5 + group * 9) old) (nineOf group), length-take-le (5 + group * 9) old (omega arith),
-        length-cell-bytes 8 9 (take 8 (drop (group * 8) marks)) (take 8 (drop (group * 8) characters)), length-drop (5 + group * 9 + 9) old) (omega arith))
+        ∙ rw (
+          length-append (take (5 + group * 9) old) (nineOf group),
+          length-take-le (5 + group * 9) old (omega arith),
+          length-cell-bytes 8 9 (take 8 (drop (group * 8) marks)) (take 8 (drop (group * 8) characters)),
+          length-drop (5 + group * 9 + 9) old,
+        ) (omega arith))
 
   -- none stored yet, and all stored
   pub left-first : leftFrom 0 ≡ cellBytes 960 1080 marks characters

@@ -52,8 +52,8 @@ module _ (page : Page) (lent : List ℕ) where
   record-stored five first last e f g =
       let size : length five ≡ 5 = ap length e ∙ length-head (page .magazine) (page .header) (page .clean) in
       let kept : drop 1085 first ≡ drop 1085 lent =
-          ap (drop 1085) f
-          ∙ (ap (λ (k : ℕ). drop (k + 1080) (five ++ drop 5 lent)) (sym size) ∙ (drop-append-add five (drop 5 lent) 1080 ∙ drop-drop 1080 5 lent)) in
+      ap (drop 1085) f
+      ∙ (ap (λ (k : ℕ). drop (k + 1080) (five ++ drop 5 lent)) (sym size) ∙ (drop-append-add five (drop 5 lent) 1080 ∙ drop-drop 1080 5 lent)) in
       let taken : take 5 first ≡ five = ap (take 5) f ∙ take-at five (drop 5 lent) 5 size in
       g ∙ rw (kept, taken, e, record-is page)
 

@@ -225,7 +225,11 @@ fn store_cells(characters: &[u8], marks: &[u8], record: &mut [u8])
     while group < CELLS / 8 {
         let some_marks = eight_at(marks, group * 8);
         let some_characters = eight_at(characters, group * 8);
-        store_nine(record, 5 + group * 9, nine_bytes(some_marks, some_characters));
+        store_nine(
+            record,
+            5 + group * 9,
+            nine_bytes(some_marks, some_characters),
+        );
         group += 1;
     }
 }
