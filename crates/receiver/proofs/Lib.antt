@@ -1,3 +1,5 @@
+pub mod Asked
+pub mod Asking
 pub mod Carried
 pub mod Changes
 pub mod Closings

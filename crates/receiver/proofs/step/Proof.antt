@@ -1,104 +1,107 @@
+use mathlib.Core.Path.{_≡_, refl, sym, ap, _∙_}
+use mathlib.Core.Bool.{true}
+use Prim.Native.Nat.{ℕ}
+use native.Mathlib.Omega.{arith}
+use denote.Ref.{now}
+use Rattle.packet.specs.declared.Address.the-variants.{Whole, First, Second, Unread, WrongLength}
+use Rattle.packet.proofs.Papers.{address-is}
+use Rattle.receiver.specs.Entries.{answerPaper, refusal}
+use Rattle.receiver.specs.Lines.{Seen, effect, seen}
+use Rattle.receiver.proofs.Asking.{address-length, first-other, first-ours, meets, no-packet, second-harmless, second-unsure, step-as}
+use Rattle.receiver.proofs.Steps.{nothing-left, retarget}
 use borrow.Author.Needs.{needs}
 use Rattle.receiver.proofs.step.Statement.{statement}
 use Rattle.receiver.proofs.step.Tie as tie
-use Rattle.receiver.proofs.step.Reads as reads
-use Rattle.receiver.proofs.step.Lts as lts
-use Rattle.packet.proofs.address_of.Reads as address-of-reads
-use Rattle.receiver.proofs.passed_over.Reads as passed-over-reads
-use Rattle.receiver.proofs.unsure_line.Reads as unsure-line-reads
-use Rattle.receiver.proofs.whole_address.Reads as whole-address-reads
 
--- src/lib.rt:596:11
 address-of-requires : tie.Need-address-of-requires
 address-of-requires c κs = search needs
 
--- src/lib.rt:597:26
 enum-known-magazine : tie.Need-enum-known-magazine
 enum-known-magazine c = search needs
 
--- src/lib.rt:597:45
 whole-address-requires : tie.Need-whole-address-requires
-whole-address-requires c κs = ?
+whole-address-requires c κs =
+    (c .before .before .before .before .before .before .before .pre .0, address-length (c .before .before .before .before .before .before .before .args .packet .now) (Whole (c .before .before .magazine .given .0 .0) (c .before .before .magazine .given .0 .1 .0)) (sym (address-is _ _ (c .before .before .before .before .address-of .ensures)) ∙ c .before .before .magazine .given .1) (λ e. let z : _≡_ {A = ℕ} 0 1 = cc in omega arith), c .before .before .before .before .before .before .before .pre .1)
 
--- src/lib.rt:598:26
 enum-known-magazine-2 : tie.Need-enum-known-magazine-2
 enum-known-magazine-2 c = search needs
 
--- src/lib.rt:600:17
 unsure-line-requires : tie.Need-unsure-line-requires
 unsure-line-requires c κs = search needs
 
--- src/lib.rt:602:17
 passed-over-requires : tie.Need-passed-over-requires
 passed-over-requires c κs = search needs
 
--- src/lib.rt:605:27
 enum-known-weights : tie.Need-enum-known-weights
 enum-known-weights c = search needs
 
--- src/lib.rt:607:17
 passed-over-requires-2 : tie.Need-passed-over-requires-2
 passed-over-requires-2 c κs = search needs
 
--- src/lib.rt:609:17
 unsure-line-requires-2 : tie.Need-unsure-line-requires-2
 unsure-line-requires-2 c κs = search needs
 
--- src/lib.rt:612:56
 enum-told : tie.Need-enum-told
 enum-told c = search needs
 
--- src/lib.rt:612:28
 unsure-line-requires-3 : tie.Need-unsure-line-requires-3
 unsure-line-requires-3 c κs = search needs
 
--- src/lib.rt:615:21
 enum-told-2 : tie.Need-enum-told-2
 enum-told-2 c = search needs
 
--- src/lib.rt:592:1
 same-length : tie.Need-same-length
 same-length c = search needs
 
--- src/lib.rt:592:1
 returns : tie.Need-returns
-returns c = ?
+unfolding effect seen
+returns c =
+    step-as (c .before .before .before .before .before .before .before .before .before .before .args .packet .now) (c .before .before .before .before .before .before .before .before .before .before .args .receiver) (now (c .before .before .before .before .before .before .before .before .before .before .args .«record»)) (Whole (c .before .before .before .before .before .magazine .given .0 .0) (c .before .before .before .before .before .magazine .given .0 .1 .0)) (sym (address-is _ _ (c .before .before .before .before .before .before .before .address-of .ensures)) ∙ c .before .before .before .before .before .magazine .given .1) (λ e. let z : _≡_ {A = ℕ} 0 1 = cc in omega arith) _ _
+    (c .before .before .whole-address .ensures)
 
--- src/lib.rt:592:1
 same-length-2 : tie.Need-same-length-2
 same-length-2 c = search needs
 
--- src/lib.rt:592:1
 returns-2 : tie.Need-returns-2
-returns-2 c = ?
+unfolding effect seen
+returns-2 c =
+    step-as (c .before .before .before .before .before .before .before .before .before .before .before .before .args .packet .now) (c .before .before .before .before .before .before .before .before .before .before .before .before .args .receiver) (now (c .before .before .before .before .before .before .before .before .before .before .before .before .args .«record»)) (First (c .before .before .before .before .before .before .before .magazine2 .given .0 .0) (c .before .before .before .before .before .before .before .magazine2 .given .0 .1 .0)) (sym (address-is _ _ (c .before .before .before .before .before .before .before .before .before .address-of .ensures)) ∙ c .before .before .before .before .before .before .before .magazine2 .given .1) (λ e. let z : _≡_ {A = ℕ} 0 1 = cc in omega arith) _ _
+    (retarget _ _ (ap (λ (s : Seen). effect (c .before .before .before .before .before .before .before .before .before .before .before .before .args .receiver) s (c .before .before .before .before .before .before .before .before .before .before .before .before .args .packet .now) (now (c .before .before .before .before .before .before .before .before .before .before .before .before .args .«record»))) (first-ours (c .before .before .before .before .before .before .before .before .before .before .before .before .args .receiver .selection) (c .before .before .before .before .before .before .before .before .before .before .before .before .args .receiver .«open») _ (c .before .before .before .before .before .before .before .magazine2 .given .0 .1 .0) (c .before .before .before .before .if1 .taken))) (c .before .before .unsure-line .ensures))
 
--- src/lib.rt:592:1
 returns-3 : tie.Need-returns-3
-returns-3 c = ?
+unfolding effect seen
+returns-3 c =
+    step-as (c .before .before .before .before .before .before .before .before .before .args .packet .now) (c .before .before .before .before .before .before .before .before .before .args .receiver) (now (c .before .before .before .before .before .before .before .before .before .args .«record»)) (First (c .before .before .before .before .magazine2 .given .0 .0) (c .before .before .before .before .magazine2 .given .0 .1 .0)) (sym (address-is _ _ (c .before .before .before .before .before .before .address-of .ensures)) ∙ c .before .before .before .before .magazine2 .given .1) (λ e. let z : _≡_ {A = ℕ} 0 1 = cc in omega arith) _ _
+    (retarget _ _ (ap (λ (s : Seen). effect (c .before .before .before .before .before .before .before .before .before .args .receiver) s (c .before .before .before .before .before .before .before .before .before .args .packet .now) (now (c .before .before .before .before .before .before .before .before .before .args .«record»))) (first-other (c .before .before .before .before .before .before .before .before .before .args .receiver .selection) (c .before .before .before .before .before .before .before .before .before .args .receiver .«open») _ (c .before .before .before .before .magazine2 .given .0 .1 .0) (c .before .if1 .left))) (nothing-left (c .before .before .before .before .before .before .before .before .before .args .receiver) _ (now (c .before .before .before .before .before .before .before .before .before .args .«record»)) (c .passed-over .ensures)))
 
--- src/lib.rt:592:1
 returns-4 : tie.Need-returns-4
-returns-4 c = ?
+unfolding effect seen
+returns-4 c =
+    step-as (c .before .before .before .before .before .before .before .before .args .packet .now) (c .before .before .before .before .before .before .before .before .args .receiver) (now (c .before .before .before .before .before .before .before .before .args .«record»)) (Second (c .before .before .before .weights .given .0 .0)) (sym (address-is _ _ (c .before .before .before .before .before .address-of .ensures)) ∙ c .before .before .before .weights .given .1) (λ e. let z : _≡_ {A = ℕ} 0 1 = cc in omega arith) _ _
+    (retarget _ _ (ap (λ (s : Seen). effect (c .before .before .before .before .before .before .before .before .args .receiver) s (c .before .before .before .before .before .before .before .before .args .packet .now) (now (c .before .before .before .before .before .before .before .before .args .«record»))) (second-harmless (c .before .before .before .before .before .before .before .before .args .receiver .selection) (c .before .before .before .before .before .before .before .before .args .receiver .«open») _ (c .before .if2 .taken))) (nothing-left (c .before .before .before .before .before .before .before .before .args .receiver) _ (now (c .before .before .before .before .before .before .before .before .args .«record»)) (c .passed-over2 .ensures)))
 
--- src/lib.rt:592:1
 same-length-3 : tie.Need-same-length-3
 same-length-3 c = search needs
 
--- src/lib.rt:592:1
 returns-5 : tie.Need-returns-5
-returns-5 c = ?
+unfolding effect seen
+returns-5 c =
+    step-as (c .before .before .before .before .before .before .before .before .before .before .before .args .packet .now) (c .before .before .before .before .before .before .before .before .before .before .before .args .receiver) (now (c .before .before .before .before .before .before .before .before .before .before .before .args .«record»)) (Second (c .before .before .before .before .before .before .weights .given .0 .0)) (sym (address-is _ _ (c .before .before .before .before .before .before .before .before .address-of .ensures)) ∙ c .before .before .before .before .before .before .weights .given .1) (λ e. let z : _≡_ {A = ℕ} 0 1 = cc in omega arith) _ _
+    (retarget _ _ (ap (λ (s : Seen). effect (c .before .before .before .before .before .before .before .before .before .before .before .args .receiver) s (c .before .before .before .before .before .before .before .before .before .before .before .args .packet .now) (now (c .before .before .before .before .before .before .before .before .before .before .before .args .«record»))) (second-unsure (c .before .before .before .before .before .before .before .before .before .before .before .args .receiver .selection) (c .before .before .before .before .before .before .before .before .before .before .before .args .receiver .«open») _ (c .before .before .before .before .if2 .left))) (c .before .before .unsure-line2 .ensures))
 
--- src/lib.rt:592:1
 same-length-4 : tie.Need-same-length-4
 same-length-4 c = search needs
 
--- src/lib.rt:592:1
 returns-6 : tie.Need-returns-6
-returns-6 c = ?
+unfolding effect seen
+returns-6 c =
+    step-as (c .before .before .before .before .before .before .before .before .before .args .packet .now) (c .before .before .before .before .before .before .before .before .before .args .receiver) (now (c .before .before .before .before .before .before .before .before .before .args .«record»)) (Unread) (sym (address-is _ _ (c .before .before .before .before .before .before .address-of .ensures)) ∙ c .before .before .before .before .enum-told .given .1) (λ e. let z : _≡_ {A = ℕ} 0 1 = cc in omega arith) _ _
+    (c .before .before .unsure-line3 .ensures)
 
--- src/lib.rt:592:1
 returns-7 : tie.Need-returns-7
-returns-7 c = ?
+unfolding refusal answerPaper
+returns-7 c =
+    meets _ _ (no-packet (c .before .before .before .before .before .args .packet .now) (c .before .before .before .before .before .args .receiver) (now (c .before .before .before .before .before .args .«record»)) (sym (address-is _ _ (c .before .before .address-of .ensures)) ∙ c .enum-told2 .given .1)) (record { answered = refl; kept = refl; left = refl })
 
 pub step-spec : {M : Type 1} → statement M
 step-spec =
