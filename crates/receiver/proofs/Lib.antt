@@ -19,4 +19,5 @@ pub mod Sized
 pub mod Sound
 pub mod Steps
 pub mod Undoubted
+pub mod Unique
 pub mod Writes
