@@ -1,11 +1,10 @@
 -- The writer's answer, from what the tests on its parts showed.
-use mathlib.Core.Path.{_≡_, refl, _∙_, ap, sym}
-use mathlib.Core.Bool.{Bool, true, false, cond, _&&_}
+use mathlib.Core.Path.{_≡_, refl}
+use mathlib.Core.Bool.{Bool, true, false, cond}
 use Prim.Native.Nat.{ℕ}
 use Rattle.packet.specs.declared.Header.{Header}
-use Rattle.page.specs.Lawful.{magazineFits, headerFits, cellsFit, pageFits, digitsLawful, cellsLawful, cellsChecked}
+use Rattle.page.specs.Lawful.{magazineFits, headerFits, cellsFit, digitsLawful, cellsLawful, cellsChecked}
 use Rattle.page.specs.Private.{partsAnswer}
-use Rattle.page.specs.Writing.{pageAnswer}
 use Rattle.page.specs.declared.Cells.{Cells}
 use Rattle.page.specs.declared.CellsCheck.{CellsCheck}
 use Rattle.page.specs.declared.CellsCheck.the-variants as check

@@ -1,11 +1,11 @@
 -- The checks of 24 and 23 cell by cell, and what each answer shows.
-use mathlib.Core.Path.{_≡_, refl, _∙_, ap, sym}
+use mathlib.Core.Path.{_≡_, refl, _∙_, sym}
 use mathlib.Core.Bool.{Bool, true, false, not, cond, _&&_, _||_, Bool·not-not, and-comm, and-true, or-assoc, or-false}
-use mathlib.Core.List.{List, [], _∷_}
+use mathlib.Core.List.{List}
 use Prim.Native.Nat.{ℕ, suc, _+_, _<_, _≤_}
 use native.Mathlib.Numerals.{add-one}
 use native.Mathlib.Omega.{arith}
-use lib.Dec.{eqb, leb, ltb}
+use lib.Dec.{eqb, ltb}
 use lib.ListN.{length, getD, take, drop, drop-of-length-le}
 use lib.Seq.{drop-cons}
 use Rattle.laws.specs.Every.{every, everyPair}
@@ -97,3 +97,18 @@ module _ (cells : Cells) where
 
   pub answer-lawful : cellsFit cells ≡ true → cellsLawful cells ≡ true → cellsChecked cells ≡ Lawful
   answer-lawful e f = checked true true e f
+
+-- cells that fit and are not found lawful are not lawful, and those found lawful are
+pub lawful-shown : (cells : Cells) → cellsFit cells ≡ true → Lawful ≡ cellsChecked cells → cellsLawful cells ≡ true
+lawful-shown cells e a = shown (cellsLawful cells) refl
+  where
+    shown : (lawful : Bool) → cellsLawful cells ≡ lawful → cellsLawful cells ≡ true
+    shown true f = f
+    shown false f = absurd (let z : _≡_ {A = ℕ} 0 1 = cc (answer-unlawful cells e f) in omega arith)
+
+pub unlawful-shown : (cells : Cells) → cellsFit cells ≡ true → (answer : CellsCheck) → answer ≡ cellsChecked cells → (answer ≡ Lawful → ⊥) → cellsLawful cells ≡ false
+unlawful-shown cells e answer a other = shown (cellsLawful cells) refl
+  where
+    shown : (lawful : Bool) → cellsLawful cells ≡ lawful → cellsLawful cells ≡ false
+    shown true f = absurd (other (a ∙ answer-lawful cells e f))
+    shown false f = f

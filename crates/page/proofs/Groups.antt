@@ -1,10 +1,9 @@
 -- Eight cells are nine bytes: each byte of the eight cells, and each cell of the nine bytes, worked out.
 use mathlib.Core.Path.{_≡_, refl, _∙_, ap, sym}
-use mathlib.Core.List.{List, [], _∷_, _++_, append-assoc}
-use Prim.Native.Nat.{ℕ, _+_, _*_, _/_, _%_, _^_}
+use mathlib.Core.List.{List, [], _∷_, _++_}
+use Prim.Native.Nat.{ℕ, _+_, _*_, _/_, _%_}
 use native.Mathlib.Nat.{div-div-eq-div-mul}
 use lib.ListN.{length, getD}
-use Rattle.laws.specs.Digits.{binary}
 use Rattle.laws.specs.Fields.{digits, fieldsBits, fieldsOf, bytesOf, bitsOf}
 use Rattle.laws.proofs.Digits.{binary-digits, two-runs, three-runs}
 use Rattle.laws.proofs.Table.{tabulate}

@@ -2,18 +2,20 @@
 use mathlib.Core.Path.{_≡_, refl, _∙_, ap, sym}
 use mathlib.Core.Bool.{Bool, true, false, cond}
 use mathlib.Core.List.{List, [], _∷_, _++_}
-use Prim.Native.Nat.{ℕ, _+_, _*_, _/_, _%_, _^_, _<_}
+use Prim.Native.Nat.{ℕ, _+_, _*_, _/_, _%_, _<_}
 use native.Mathlib.Nat.{add-zero, div-div-eq-div-mul, mod-mod}
 use native.Mathlib.Omega.{arith}
 use mir.Val.{boolByte}
+use lib.Dec.{eqb}
 use lib.ListN.{length, getD}
 use Rattle.laws.specs.Fields.{digits, fieldsBits, fieldsOf, bytesOf, bitsOf}
 use Rattle.laws.proofs.Digits.{binary-digits, two-runs, three-runs}
 use Rattle.laws.proofs.Tabulated.{tabulated, cons-is}
 use Rattle.packet.specs.Headers.{headerValues}
 use Rattle.packet.specs.declared.Header.{Header}
-use Rattle.page.specs.Private.{headBytes, headFields}
-use Rattle.page.specs.Records.{headValues, headWidths, magazineValue}
+use Rattle.page.specs.Private.{headBytes, headFields, headFrom}
+use Rattle.page.specs.Records.{headValues, headWidths, magazineFrom, magazineValue}
+use Rattle.page.specs.declared.Head.{Head}
 
 module _ (g t u ht hu mt mu co cl z : ℕ) where
   -- the values' bits, cut where a byte ends
@@ -98,3 +100,25 @@ ten-values bs h =
     ap (λ (xs : List ℕ). fieldsOf headWidths (bitsOf xs)) (tabulated 5 bs h)
     ∙ (ap (fieldsOf headWidths) (values-cut-is (getD bs 0 0) (getD bs 1 0) (getD bs 2 0) (getD bs 3 0) (getD bs 4 0))
     ∙ values-of-cut (getD bs 0 0) (getD bs 1 0) (getD bs 2 0) (getD bs 3 0) (getD bs 4 0))
+
+-- what the bytes hold, part by part
+pub head-from : (bs : List ℕ) → length bs ≡ 5 → (magazine high low : ℕ)
+    → magazine ≡ magazineFrom (getD bs 0 0 / 32 % 8) → high ≡ getD bs 3 0 → low ≡ getD bs 4 0
+    → _≡_ {A = Head}
+    (record {
+      magazine = magazine;
+      header = record {
+        tens = getD bs 0 0 / 2 % 16;
+        units = getD bs 0 0 % 2 * 8 + getD bs 1 0 / 32 % 8;
+        «hours_tens» = getD bs 1 0 / 8 % 4;
+        «hours_units» = getD bs 1 0 % 8 * 2 + getD bs 2 0 / 128 % 2;
+        «minutes_tens» = getD bs 2 0 / 16 % 8;
+        «minutes_units» = getD bs 2 0 % 16;
+        control = high % 256 * 8 + low / 32 % 8;
+      };
+      clean = eqb (getD bs 4 0 / 16 % 2) 1;
+      zero = getD bs 4 0 % 16;
+    })
+    (headFrom (headFields bs))
+unfolding headFrom
+head-from bs h magazine high low m hi lo = rw (m, hi, lo, ten-values bs h)

@@ -1,14 +1,13 @@
 -- A run of cells that fills whole bytes stands in bytes of its own: its bytes depend on it alone, and what follows it starts afresh.
 use mathlib.Core.Path.{_≡_, refl, _∙_, ap, sym}
-use mathlib.Core.List.{List, [], _∷_, _++_, append-assoc}
-use Prim.Native.Nat.{ℕ, zero, suc, _+_, _*_, _-_, _≤_, _<_}
+use mathlib.Core.List.{List, [], _∷_, _++_}
+use Prim.Native.Nat.{ℕ, zero, suc, _+_, _*_, _≤_}
 use native.Mathlib.Nat.{zero-add, suc-add}
 use native.Mathlib.Omega.{arith}
-use lib.ListN.{length, take, drop, take-append-drop, length-append, length-take, length-drop}
-use lib.Seq.{length-take-le, take-at, drop-at, drop-drop}
+use lib.ListN.{length, take, drop, take-append-drop}
+use lib.Seq.{length-take-le}
 use Rattle.laws.specs.Fields.{fieldsBits, fieldsOf, bytesOf, bitsOf, total}
-use Rattle.laws.proofs.Digits.{AreBits}
-use Rattle.laws.proofs.Fields.{Fit, bits-of-append, bits-of-bytes-append, bytes-append, fields-of-append, length-bits, length-bits-of, length-bytes, length-fields, total-append}
+use Rattle.laws.proofs.Fields.{bits-of-append, bits-of-bytes-append, bytes-append, fields-of-append, length-bits, length-bits-of, length-fields}
 use Rattle.page.specs.Private.{cellBytes, cellFields}
 use Rattle.page.specs.Records.{cellWidths, cellValues, marksFrom, charactersFrom}
 
@@ -97,3 +96,17 @@ fields-split count size whole n bytes h =
 pub length-cell-fields : (n : ℕ) (bytes : List ℕ) → length (cellFields n bytes) ≡ 2 * n
 unfolding cellFields
 length-cell-fields n bytes = length-fields (cellWidths n) (bitsOf bytes) ∙ length-widths n
+
+pub length-marks : (n : ℕ) (xs : List ℕ) → length xs ≡ 2 * n → length (marksFrom xs) ≡ n
+unfolding marksFrom
+length-marks n [] e = omega arith
+length-marks n (x ∷ []) e = absurd (omega arith)
+length-marks zero (x ∷ y ∷ xs) e = absurd (omega arith)
+length-marks (suc n) (x ∷ y ∷ xs) e = ap suc (length-marks n xs (omega arith))
+
+pub length-characters : (n : ℕ) (xs : List ℕ) → length xs ≡ 2 * n → length (charactersFrom xs) ≡ n
+unfolding charactersFrom
+length-characters n [] e = omega arith
+length-characters n (x ∷ []) e = absurd (omega arith)
+length-characters zero (x ∷ y ∷ xs) e = absurd (omega arith)
+length-characters (suc n) (x ∷ y ∷ xs) e = ap suc (length-characters n xs (omega arith))

@@ -1,8 +1,8 @@
 -- What the writer's steps come to: its answer, and the record in the lent buffer.
 use mathlib.Core.Path.{_≡_, refl, _∙_, ap, sym}
 use mathlib.Core.Bool.{Bool}
-use mathlib.Core.List.{List, [], _∷_, _++_, append-assoc}
-use Prim.Native.Nat.{ℕ, _+_, _*_, _≤_}
+use mathlib.Core.List.{List, _++_}
+use Prim.Native.Nat.{ℕ, _+_, _≤_}
 use native.Mathlib.Omega.{arith}
 use borrow.Author.Tests.{le-leb}
 use lib.ListN.{length, length-append, length-drop, take, drop}
@@ -12,10 +12,9 @@ use Rattle.laws.proofs.Fields.{bits-of-append, bytes-append, length-bits, lengt
 use Rattle.packet.specs.declared.Header.{Header}
 use Rattle.page.specs.Private.{cellBytes, headBytes, partsAnswer}
 use Rattle.page.specs.Records.{cellValues, cellWidths, headValues, headWidths, recordOf}
-use Rattle.page.specs.Writing.{lentAfter, pageAnswer, writeAnswer, writePaper, written}
+use Rattle.page.specs.Writing.{lentAfter, writeAnswer, writePaper, written}
 use Rattle.page.specs.declared.Page.{Page}
 use Rattle.page.specs.declared.WriteAnswer.{WriteAnswer}
-use Rattle.page.specs.declared.WriteAnswer.the-variants.{Written, ShortRecord}
 
 -- ---- the record is its head, and then its cells
 

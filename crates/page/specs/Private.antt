@@ -2,12 +2,14 @@
 use mathlib.Core.Bool.{Bool, false}
 use mathlib.Core.List.{List}
 use Prim.Native.Nat.{ℕ}
+use lib.Dec.{eqb}
+use lib.ListN.{getD}
 use Rattle.laws.specs.Fields.{fieldsBits, fieldsOf, bytesOf, bitsOf}
 use Rattle.packet.specs.declared.Header.{Header}
-use Rattle.page.specs.Records.{headWidths, headValues, cellWidths, cellValues}
+use Rattle.page.specs.Records.{headWidths, headValues, cellWidths, cellValues, magazineFrom, headerAt, zeroFrom}
 use Rattle.page.specs.Writing.{pageAnswer}
 use Rattle.page.specs.declared.Cells.{Cells}
-use Rattle.page.specs.declared.Page.{Page}
+use Rattle.page.specs.declared.Head.{Head}
 use Rattle.page.specs.declared.WriteAnswer.{WriteAnswer}
 
 -- the bytes before the cells
@@ -34,3 +36,9 @@ cellFields count bytes = fieldsOf (cellWidths count) (bitsOf bytes)
 unfoldable pub headFields : List ℕ → List ℕ
 unfolding bitsOf fieldsOf
 headFields bytes = fieldsOf headWidths (bitsOf bytes)
+
+-- what they are
+unfoldable pub headFrom : List ℕ → Head
+unfolding magazineFrom headerAt zeroFrom
+headFrom values =
+    record { magazine = magazineFrom (getD values 0 0); header = headerAt values; clean = eqb (getD values 8 0) 1; zero = zeroFrom values }

@@ -7,9 +7,9 @@ ghost use lib.ListN.{length, take, drop};
 ghost use Rattle.laws.specs.Every.{every};
 ghost use Rattle.packet.specs.Texts.{headerColumn};
 ghost use Rattle.page.specs.Lawful.{cellsChecked, cellsPaper, digitsLawful, headerFits, isNever};
-ghost use Rattle.page.specs.Private.{cellBytes, headBytes, partsAnswer};
-ghost use Rattle.page.specs.Reading.{pageRead, readAnswer, readPaper};
-ghost use Rattle.page.specs.Records.{cellCount, cellsOf, recordLength};
+ghost use Rattle.page.specs.Private.{cellBytes, cellFields, headBytes, headFields, headFrom, partsAnswer};
+ghost use Rattle.page.specs.Reading.{pageRead, readAnswer, readPaper, zeroPage};
+ghost use Rattle.page.specs.Records.{cellCount, cellsFrom, cellsOf, charactersFrom, magazineFrom, marksFrom, recordLength};
 ghost use Rattle.page.specs.Writing.{writeAnswer, writePaper, written};
 use packet::Header;
 
@@ -287,4 +287,176 @@ pub fn write_record(page: Page, record: &mut [u8]) -> WriteAnswer
     store_head(record, head_bytes(page.magazine, header, page.clean));
     store_cells(&characters, &marks, record);
     WriteAnswer::Written
+}
+
+fn magazine_in(value: u8) -> u8
+    ensures { λ r. ⌜ r ≡ magazineFrom value ⌝ }
+{
+    if value == 0 { 8 } else { value }
+}
+
+// What the five bytes before the cells hold.
+fn head_in(bytes: [u8; 5]) -> Head
+    ensures { λ r. ⌜ r ≡ headFrom (headFields bytes) ⌝ }
+{
+    let magazine = magazine_in(bytes[0] / 32 % 8);
+    let header = Header {
+        tens: bytes[0] / 2 % 16,
+        units: bytes[0] % 2 * 8 + bytes[1] / 32 % 8,
+        hours_tens: bytes[1] / 8 % 4,
+        hours_units: bytes[1] % 8 * 2 + bytes[2] / 128 % 2,
+        minutes_tens: bytes[2] / 16 % 8,
+        minutes_units: bytes[2] % 16,
+        control: wide(bytes[3]) % 256 * 8 + wide(bytes[4]) / 32 % 8,
+    };
+    Head {
+        magazine,
+        header,
+        clean: bytes[4] / 16 % 2 == 1,
+        zero: bytes[4] % 16,
+    }
+}
+
+fn wide(byte: u8) -> u16
+    ensures { λ r. ⌜ r ≡ byte ⌝ }
+{
+    byte as u16
+}
+
+// Nine bytes from the place `at` on.
+fn nine_at(record: &[u8], at: usize) -> [u8; 9]
+    requires { ⌜ at + 9 ≤ length (now «record») ⌝ }
+    ensures { λ r. ⌜ r ≡ take 9 (drop at (now («record» .entry))) ⌝ }
+{
+    [
+        record[at],
+        record[at + 1],
+        record[at + 2],
+        record[at + 3],
+        record[at + 4],
+        record[at + 5],
+        record[at + 6],
+        record[at + 7],
+        record[at + 8],
+    ]
+}
+
+// The eight cells of nine bytes.
+fn eight_cells(bytes: [u8; 9]) -> EightCells
+    ensures { λ r. ⌜ (r .marks ≡ marksFrom (cellFields 8 bytes)) × (r .characters ≡ charactersFrom (cellFields 8 bytes)) ⌝ }
+{
+    let marks = [
+        bytes[0] / 64 % 4,
+        bytes[1] / 32 % 4,
+        bytes[2] / 16 % 4,
+        bytes[3] / 8 % 4,
+        bytes[4] / 4 % 4,
+        bytes[5] / 2 % 4,
+        bytes[6] % 4,
+        bytes[7] % 2 * 2 + bytes[8] / 128 % 2,
+    ];
+    let characters = [
+        bytes[0] % 64 * 2 + bytes[1] / 128 % 2,
+        bytes[1] % 32 * 4 + bytes[2] / 64 % 4,
+        bytes[2] % 16 * 8 + bytes[3] / 32 % 8,
+        bytes[3] % 8 * 16 + bytes[4] / 16 % 16,
+        bytes[4] % 4 * 32 + bytes[5] / 8 % 32,
+        bytes[5] % 2 * 64 + bytes[6] / 4 % 64,
+        bytes[7] / 2 % 128,
+        bytes[8] % 128,
+    ];
+    EightCells { marks, characters }
+}
+
+// Eight characters, or marks, stored from the place `at` on.
+fn store_eight(cells: &mut [u8], at: usize, eight: [u8; 8])
+    requires { ⌜ at + 8 ≤ length (now cells) ⌝ }
+    ensures { λ _. ⌜ now (cells .exit) ≡ take at (now (cells .entry)) ++ eight ++ drop (at + 8) (now (cells .entry)) ⌝ }
+{
+    cells[at] = eight[0];
+    cells[at + 1] = eight[1];
+    cells[at + 2] = eight[2];
+    cells[at + 3] = eight[3];
+    cells[at + 4] = eight[4];
+    cells[at + 5] = eight[5];
+    cells[at + 6] = eight[6];
+    cells[at + 7] = eight[7];
+}
+
+// The cells of a record, lawful or not, nine bytes at a time.
+fn cells_in(record: &[u8]) -> Cells
+    requires { ⌜ length (now «record») ≡ recordLength ⌝ }
+    ensures { λ r. ⌜ r ≡ cellsFrom (cellFields cellCount (drop 5 (now («record» .entry)))) ⌝ }
+{
+    let mut characters = [0u8; CELLS];
+    let mut marks = [0u8; CELLS];
+    let mut group = 0;
+    while group < CELLS / 8 {
+        let eight = eight_cells(nine_at(record, 5 + group * 9));
+        let some_characters = eight.characters;
+        let some_marks = eight.marks;
+        store_eight(&mut characters, group * 8, some_characters);
+        store_eight(&mut marks, group * 8, some_marks);
+        group += 1;
+    }
+    Cells { characters, marks }
+}
+
+// A refusal, and all zeros beside it.
+fn refused(answer: ReadAnswer) -> PageRead
+    ensures { λ r. ⌜ (r .answer ≡ answer) × (r .page ≡ zeroPage) ⌝ }
+{
+    let header = Header {
+        tens: 0,
+        units: 0,
+        hours_tens: 0,
+        hours_units: 0,
+        minutes_tens: 0,
+        minutes_units: 0,
+        control: 0,
+    };
+    let cells = Cells {
+        characters: [0u8; CELLS],
+        marks: [0u8; CELLS],
+    };
+    let page = Page {
+        magazine: 0,
+        header,
+        clean: false,
+        cells,
+    };
+    PageRead { answer, page }
+}
+
+// The page of a record, or a refusal.
+pub fn read_record(record: &[u8]) -> PageRead
+    ensures { λ r. ⌜ (readPaper (r .answer) ≡ readPaper (readAnswer (now («record» .entry)))) × (r .page ≡ pageRead (now («record» .entry))) ⌝ }
+{
+    if record.len() != RECORD_LENGTH {
+        return refused(ReadAnswer::WrongLength);
+    }
+    let head = head_in([record[0], record[1], record[2], record[3], record[4]]);
+    if head.zero != 0 {
+        return refused(ReadAnswer::NotZero);
+    }
+    let header = head.header;
+    if !digits_lawful(header) {
+        return refused(ReadAnswer::BadDigit);
+    }
+    let cells = cells_in(record);
+    let characters = cells.characters;
+    let marks = cells.marks;
+    let CellsCheck::Lawful = all_checked(&characters, &marks) else {
+        return refused(ReadAnswer::UnlawfulCells);
+    };
+    let page = Page {
+        magazine: head.magazine,
+        header,
+        clean: head.clean,
+        cells,
+    };
+    PageRead {
+        answer: ReadAnswer::Read,
+        page,
+    }
 }

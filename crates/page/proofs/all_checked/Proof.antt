@@ -11,9 +11,6 @@ use Rattle.page.specs.declared.Cells.{Cells}
 use Rattle.page.proofs.Checks.{answer-large, answer-lawful, answer-unlawful, fit-last, fit-more, lawful-first, lawful-last, lawful-more}
 use Rattle.page.proofs.all_checked.Statement.{statement}
 use Rattle.page.proofs.all_checked.Tie as tie
-use Rattle.page.proofs.all_checked.Reads as reads
-use Rattle.page.proofs.all_checked.Lts as lts
-use Rattle.page.proofs.header_columns_marked.Reads as header-columns-marked-reads
 
 abbrev Inv-loop : tie.InvT-loop
 Inv-loop characters marks large₀ unlawful₀ at₀ large unlawful at =

@@ -3,9 +3,6 @@ use Rattle.page.specs.Lawful.{cellsPaper}
 use borrow.Author.Needs.{needs}
 use Rattle.page.proofs.check_cells.Statement.{statement}
 use Rattle.page.proofs.check_cells.Tie as tie
-use Rattle.page.proofs.check_cells.Reads as reads
-use Rattle.page.proofs.check_cells.Lts as lts
-use Rattle.page.proofs.all_checked.Reads as all-checked-reads
 
 all-checked-requires : tie.Need-all-checked-requires
 all-checked-requires c κs = search needs

@@ -2,8 +2,6 @@ use mathlib.Core.Path.{refl}
 use Rattle.page.specs.Lawful.{digitsLawful}
 use Rattle.page.proofs.digits_lawful.Statement.{statement}
 use Rattle.page.proofs.digits_lawful.Tie as tie
-use Rattle.page.proofs.digits_lawful.Reads as reads
-use Rattle.page.proofs.digits_lawful.Lts as lts
 
 returns : tie.Need-returns
 unfolding digitsLawful

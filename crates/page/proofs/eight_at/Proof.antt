@@ -3,8 +3,6 @@ use Rattle.laws.proofs.Runs.{part-is}
 use borrow.Author.Needs.{needs}
 use Rattle.page.proofs.eight_at.Statement.{statement}
 use Rattle.page.proofs.eight_at.Tie as tie
-use Rattle.page.proofs.eight_at.Reads as reads
-use Rattle.page.proofs.eight_at.Lts as lts
 
 shared-slice-read-t4 : tie.Need-shared-slice-read-t4
 shared-slice-read-t4 c = search needs

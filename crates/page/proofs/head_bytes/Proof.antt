@@ -3,8 +3,6 @@ use Rattle.page.proofs.Heads.{bit-below, five-bytes}
 use borrow.Author.Needs.{needs}
 use Rattle.page.proofs.head_bytes.Statement.{statement}
 use Rattle.page.proofs.head_bytes.Tie as tie
-use Rattle.page.proofs.head_bytes.Reads as reads
-use Rattle.page.proofs.head_bytes.Lts as lts
 
 mul-t5 : tie.Need-mul-t5
 mul-t5 c = search needs

@@ -2,8 +2,6 @@ use Rattle.page.proofs.Checks.{header-columns}
 use borrow.Author.Needs.{needs}
 use Rattle.page.proofs.header_columns_marked.Statement.{statement}
 use Rattle.page.proofs.header_columns_marked.Tie as tie
-use Rattle.page.proofs.header_columns_marked.Reads as reads
-use Rattle.page.proofs.header_columns_marked.Lts as lts
 
 shared-slice-read-result : tie.Need-shared-slice-read-result
 shared-slice-read-result c = search needs

@@ -2,8 +2,6 @@ use mathlib.Core.Bool.{and-assoc, and-true}
 use Rattle.page.specs.Lawful.{headerFits}
 use Rattle.page.proofs.header_fits.Statement.{statement}
 use Rattle.page.proofs.header_fits.Tie as tie
-use Rattle.page.proofs.header_fits.Reads as reads
-use Rattle.page.proofs.header_fits.Lts as lts
 
 returns : tie.Need-returns
 unfolding headerFits

@@ -3,8 +3,6 @@ use native.Mathlib.Omega.{arith}
 use Rattle.page.proofs.Groups.{nine-bytes}
 use Rattle.page.proofs.nine_bytes.Statement.{statement}
 use Rattle.page.proofs.nine_bytes.Tie as tie
-use Rattle.page.proofs.nine_bytes.Reads as reads
-use Rattle.page.proofs.nine_bytes.Lts as lts
 
 array-read-t7 : tie.Need-array-read-t7
 array-read-t7 c = search needs

@@ -8,11 +8,6 @@ use Rattle.page.proofs.Answers.{answerBy, by-check, large-header, large
 use borrow.Author.Needs.{needs}
 use Rattle.page.proofs.page_answer.Statement.{statement}
 use Rattle.page.proofs.page_answer.Tie as tie
-use Rattle.page.proofs.page_answer.Reads as reads
-use Rattle.page.proofs.page_answer.Lts as lts
-use Rattle.page.proofs.all_checked.Reads as all-checked-reads
-use Rattle.page.proofs.digits_lawful.Reads as digits-lawful-reads
-use Rattle.page.proofs.header_fits.Reads as header-fits-reads
 
 returns : tie.Need-returns
 unfolding magazineFits

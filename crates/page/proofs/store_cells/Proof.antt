@@ -1,4 +1,4 @@
-use mathlib.Core.Path.{_≡_, refl, _∙_, ap, sym}
+use mathlib.Core.Path.{_≡_, refl, _∙_, ap}
 use mathlib.Core.List.{List, _++_}
 use Prim.Native.Nat.{ℕ, _+_, _*_, _-_, _≤_}
 use native.Mathlib.Omega.{arith}
@@ -8,11 +8,6 @@ use Rattle.page.specs.Private.{cellBytes}
 use Rattle.page.proofs.Storing.{leftFrom, nineOf, stored-last, stored-length, stored-more}
 use Rattle.page.proofs.store_cells.Statement.{statement}
 use Rattle.page.proofs.store_cells.Tie as tie
-use Rattle.page.proofs.store_cells.Reads as reads
-use Rattle.page.proofs.store_cells.Lts as lts
-use Rattle.page.proofs.eight_at.Reads as eight-at-reads
-use Rattle.page.proofs.nine_bytes.Reads as nine-bytes-reads
-use Rattle.page.proofs.store_nine.Reads as store-nine-reads
 
 abbrev Inv-loop : tie.InvT-loop
 Inv-loop characters marks record₀ group₀ «record» group =

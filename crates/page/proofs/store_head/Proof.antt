@@ -4,8 +4,6 @@ use lib.ListN.{length-set}
 use borrow.Author.Needs.{needs}
 use Rattle.page.proofs.store_head.Statement.{statement}
 use Rattle.page.proofs.store_head.Tie as tie
-use Rattle.page.proofs.store_head.Reads as reads
-use Rattle.page.proofs.store_head.Lts as lts
 
 array-read-record : tie.Need-array-read-record
 array-read-record c = search needs

@@ -4,8 +4,6 @@ use lib.ListN.{length-set}
 use borrow.Author.Needs.{needs}
 use Rattle.page.proofs.store_nine.Statement.{statement}
 use Rattle.page.proofs.store_nine.Tie as tie
-use Rattle.page.proofs.store_nine.Reads as reads
-use Rattle.page.proofs.store_nine.Lts as lts
 
 array-read-record : tie.Need-array-read-record
 array-read-record c = search needs

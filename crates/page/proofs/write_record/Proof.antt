@@ -1,4 +1,4 @@
-use mathlib.Core.Path.{_≡_, refl, _∙_, ap, sym}
+use mathlib.Core.Path.{_≡_, refl, _∙_, sym}
 use mathlib.Core.List.{List, [], _∷_}
 use mathlib.Core.Logic.{⊎-elim}
 use Prim.Native.Nat.{ℕ}
@@ -16,12 +16,6 @@ use Rattle.page.proofs.Writing.{answered, head-stored-long, long-answer
 use borrow.Author.Needs.{needs}
 use Rattle.page.proofs.write_record.Statement.{statement}
 use Rattle.page.proofs.write_record.Tie as tie
-use Rattle.page.proofs.write_record.Reads as reads
-use Rattle.page.proofs.write_record.Lts as lts
-use Rattle.page.proofs.head_bytes.Reads as head-bytes-reads
-use Rattle.page.proofs.page_answer.Reads as page-answer-reads
-use Rattle.page.proofs.store_cells.Reads as store-cells-reads
-use Rattle.page.proofs.store_head.Reads as store-head-reads
 
 returns : tie.Need-returns
 unfolding writeAnswer lentAfter
