@@ -67,16 +67,19 @@ stepped-is : (promised : Entered) (s t : Stepped) (left other : List ℕ) → Me
 stepped-is promised s t left other m n =
     λ i.
     record {
-    receiver = (m .kept ∙ sym (n .kept)) i;
-    answer = answer-is (s .answer) (t .answer) (m .answered ∙ sym (n .answered)) i }
+      receiver = (m .kept ∙ sym (n .kept)) i;
+      answer = answer-is (s .answer) (t .answer) (m .answered ∙ sym (n .answered)) i;
+    }
 
 pub new-unique : Unique new.ended new-reads.Post
-new-unique κs a r r′ ws ws′ p q =
-    (λ i.
-    record {
-    answer = selected-is (r .answer) (r′ .answer) (p .0 ∙ sym (q .0)) i;
-    receiver = (p .1 ∙ sym (q .1)) i },
-    refl)
+new-unique κs a r r′ ws ws′ p q = (
+  λ i.
+      record {
+        answer = selected-is (r .answer) (r′ .answer) (p .0 ∙ sym (q .0)) i;
+        receiver = (p .1 ∙ sym (q .1)) i;
+      },
+  refl,
+)
 
 pub take-packet-unique : Unique take-packet.ended take-packet-reads.Post
 take-packet-unique κs a r r′ ws ws′ p q =
