@@ -5,7 +5,9 @@ pub mod Every
 pub mod Fields
 pub mod Found
 pub mod Inverse
+pub mod Keeps
 pub mod Lists
+pub mod Maps
 pub mod Opposite
 pub mod Runs
 pub mod Table

@@ -41,6 +41,19 @@ headerFrom messages =
       control = controlOf (getD messages 3 0) (getD messages 5 0) (getD messages 6 0) (getD messages 7 0);
     }
 
+-- the zero of a header
+unfoldable pub zeroHeader : Header
+zeroHeader =
+    record {
+      tens = 0;
+      units = 0;
+      «hours_tens» = 0;
+      «hours_units» = 0;
+      «minutes_tens» = 0;
+      «minutes_units» = 0;
+      control = 0;
+    }
+
 -- one message more in front
 abbrev pub before : ℕ → Option (List ℕ) → Option (List ℕ)
 before message none = none

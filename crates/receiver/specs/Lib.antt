@@ -1,0 +1,5 @@
+pub mod Cells
+pub mod Entries
+pub mod Lines
+pub mod Private
+pub mod Selections
