@@ -5,6 +5,7 @@ pub mod Every
 pub mod Fields
 pub mod Found
 pub mod Inverse
+pub mod Keeps
 pub mod Lists
 pub mod Maps
 pub mod Table

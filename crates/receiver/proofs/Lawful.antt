@@ -1,0 +1,215 @@
+-- A lawful receiver stays lawful: a new one is, and every line keeps all that 18 asks, so that 18 never arises from our own hands.
+use mathlib.Core.Path.{_≡_, refl, subst, sym}
+use mathlib.Core.Bool.{Bool, true, false, cond, not, _&&_, _||_}
+use mathlib.Core.List.{List}
+use Prim.Native.Nat.{ℕ, _≤_}
+use lib.Dec.{T, eqb, leb, ltb}
+use lib.ListN.{length}
+use Rattle.laws.specs.Every.{every}
+use Rattle.laws.proofs.Bools.{both-left, both-right, passed}
+use Rattle.laws.proofs.Keeps.{both, chosen, chosen-first, first-chosen}
+use Rattle.packet.specs.Addresses.{addressOf, lastRow}
+use Rattle.packet.specs.Headers.{headerOf, headerValues, zeroHeader}
+use Rattle.packet.specs.Lines.{framed, packetLength, packetOf}
+use Rattle.packet.specs.Texts.{textOf}
+use Rattle.packet.specs.declared.Address.{Address}
+use Rattle.packet.specs.declared.Address.the-variants as address
+use Rattle.packet.specs.declared.Framed.{Framed}
+use Rattle.packet.specs.declared.Framed.the-variants as framed
+use Rattle.packet.specs.declared.Header.{Header}
+use Rattle.packet.specs.declared.HeaderRead.{HeaderRead}
+use Rattle.packet.specs.declared.HeaderRead.the-variants as header
+use Rattle.page.specs.Lawful.{cellsFit, cellsLawful, headerFits}
+use Rattle.page.specs.Records.{recordLength}
+use Rattle.page.specs.declared.Cells.{Cells}
+use Rattle.receiver.specs.Cells.{aged, blank, oneMissing, rowFound}
+use Rattle.receiver.specs.Entries.{Entered, asked, entered, isZero, lawful, lineBy, lineEntered, newReceiver, packetEntered, packetTaken, refusal, stateLawful}
+use Rattle.receiver.specs.Lines.{Outcome, Seen, closed, clears, doubted, effect, firstHarmless, headerSeen, headerTaken, justClosed, nothing, opened, ourHeader, passed as passedOver, rowStored, seen, seenWhole, shut, taken, text, textTaken, unsure, unsureTaken}
+use Rattle.receiver.specs.Selections.{inRange, matches}
+use Rattle.receiver.specs.declared.Receiver.{Receiver}
+use Rattle.receiver.specs.declared.Selection.{Selection}
+use Rattle.receiver.proofs.Fits.{FitsRead, header-fits}
+use Rattle.receiver.proofs.Sound.{Sound, aged-sound, blank-sound, stored-sound}
+
+-- ---- what 18 asks, part by part
+
+pub record Parts (receiver : Receiver) : Type 0 where
+  pub range : T (inRange (receiver .selection))
+  pub state : T (stateLawful receiver)
+  pub fits : T (headerFits (receiver .header))
+  pub sound : Sound (receiver .cells)
+
+pub parts : (receiver : Receiver) → T (lawful receiver) → Parts receiver
+unfolding lawful
+parts receiver t =
+    let a = inRange (receiver .selection) in
+    let b = stateLawful receiver in
+    let c = headerFits (receiver .header) in
+    let d = cellsFit (receiver .cells) in
+    let e = cellsLawful (receiver .cells) in
+    let abcd = both-left (a && b && c && d) e t in
+    let abc = both-left (a && b && c) d abcd in
+    let ab = both-left (a && b) c abc in
+    record {
+      range = both-left a b ab;
+      state = both-right a b ab;
+      fits = both-right (a && b) c abc;
+      sound = (both-right (a && b && c) d abcd, both-right (a && b && c && d) e t);
+    }
+
+pub whole : (receiver : Receiver) → Parts receiver → T (lawful receiver)
+unfolding lawful
+whole receiver p =
+    let a = inRange (receiver .selection) in
+    let b = stateLawful receiver in
+    let c = headerFits (receiver .header) in
+    let d = cellsFit (receiver .cells) in
+    let e = cellsLawful (receiver .cells) in
+    both (a && b && c && d) e (both (a && b && c) d (both (a && b) c (both a b (p .range) (p .state)) (p .fits)) (p .sound .0)) (p .sound .1)
+
+zero-fits : T (headerFits zeroHeader)
+unfolding headerFits zeroHeader
+zero-fits = tt
+
+zero-is-zero : T (isZero zeroHeader)
+unfolding isZero zeroHeader
+zero-is-zero = tt
+
+-- ---- a new receiver
+
+pub new-lawful : (selection : Selection) → T (inRange selection) → T (lawful (newReceiver selection))
+unfolding newReceiver stateLawful
+new-lawful selection t =
+    whole (newReceiver selection) (record { range = t; state = zero-is-zero; fits = zero-fits; sound = blank-sound })
+
+-- ---- closing, opening, storing and doubting
+
+pub shut-lawful : (receiver : Receiver) → T (lawful receiver) → T (lawful (shut receiver))
+unfolding shut stateLawful
+shut-lawful receiver t =
+    let p = parts receiver t in
+    whole (shut receiver) (record { range = p .range; state = zero-is-zero; fits = zero-fits; sound = p .sound })
+
+pub closed-lawful : (receiver : Receiver) → T (lawful receiver) → T (lawful (closed receiver))
+unfolding closed
+closed-lawful receiver t =
+    chosen (λ (r : Receiver). T (lawful r)) (receiver .«open») (shut receiver) receiver (λ o. shut-lawful receiver t) (λ o. t)
+
+-- closing keeps the selection
+pub closed-selection : (receiver : Receiver) → closed receiver .selection ≡ receiver .selection
+unfolding closed shut
+closed-selection receiver =
+    chosen (λ (r : Receiver). r .selection ≡ receiver .selection) (receiver .«open») (shut receiver) receiver (λ o. refl) (λ o. refl)
+
+pub opened-lawful : (receiver : Receiver) (header : Header) → T (lawful receiver) → T (matches (receiver .selection) header)
+    → T (headerFits header) → T (lawful (opened receiver header))
+unfolding opened stateLawful
+opened-lawful receiver header t m f =
+    let p = parts receiver t in
+    whole (opened receiver header)
+    (record {
+      range = p .range;
+      state = m;
+      fits = f;
+      sound = chosen Sound (clears header) blank (aged (receiver .cells)) (λ c. blank-sound) (λ c. aged-sound (receiver .cells) (p .sound));
+    })
+
+pub opened-open : (receiver : Receiver) (header : Header) → T (opened receiver header .«open»)
+unfolding opened
+opened-open receiver header = tt
+
+-- the header of an open page matches
+pub open-matches : (receiver : Receiver) → T (lawful receiver) → T (receiver .«open») → T (matches (receiver .selection) (receiver .header))
+unfolding stateLawful
+open-matches receiver t o =
+    chosen-first (receiver .«open») (matches (receiver .selection) (receiver .header)) (not (receiver .doubt) && isZero (receiver .header)) o
+    (parts receiver t .state)
+
+pub stored-lawful : (receiver : Receiver) (row : ℕ) (bytes : List ℕ) → T (lawful receiver) → T (receiver .«open»)
+    → T (lawful (rowStored receiver row bytes))
+unfolding rowStored stateLawful
+stored-lawful receiver row bytes t o =
+    let p = parts receiver t in
+    whole (rowStored receiver row bytes)
+    (record {
+      range = p .range;
+      state = first-chosen (receiver .«open») (matches (receiver .selection) (receiver .header)) _ o (open-matches receiver t o);
+      fits = p .fits;
+      sound = stored-sound row bytes (receiver .cells) (p .sound);
+    })
+
+pub doubted-lawful : (receiver : Receiver) → T (lawful receiver) → T (receiver .«open») → T (lawful (doubted receiver))
+unfolding doubted stateLawful
+doubted-lawful receiver t o =
+    let p = parts receiver t in
+    whole (doubted receiver)
+    (record {
+      range = p .range;
+      state = first-chosen (receiver .«open») (matches (receiver .selection) (receiver .header)) _ o (open-matches receiver t o);
+      fits = p .fits;
+      sound = p .sound;
+    })
+
+-- ---- one line
+
+-- text is seen only with a page open
+abbrev pub TextWhereOpen : Bool → Seen → Type 0
+TextWhereOpen isOpen passedOver = Unit {0}
+TextWhereOpen isOpen (text row) = T isOpen
+TextWhereOpen isOpen ourHeader = Unit {0}
+TextWhereOpen isOpen (unsure couldBeHeader) = Unit {0}
+
+pub seen-open : (selection : Selection) (isOpen : Bool) (a : Address) → TextWhereOpen isOpen (seen selection isOpen a)
+unfolding seen seenWhole
+seen-open selection isOpen (address.Whole magazine row) =
+    chosen (TextWhereOpen isOpen) (eqb magazine (selection .magazine)) _ passedOver
+    (λ m.
+    chosen (TextWhereOpen isOpen) (eqb row 0) ourHeader _ (λ z. tt)
+    (λ z. chosen (TextWhereOpen isOpen) (leb row lastRow && isOpen) (text row) passedOver (λ t. both-right (leb row lastRow) isOpen t) (λ t. tt)))
+    (λ m. tt)
+seen-open selection isOpen (address.First magazine weight1) =
+    chosen (TextWhereOpen isOpen) (eqb magazine (selection .magazine)) _ passedOver (λ m. tt) (λ m. tt)
+seen-open selection isOpen (address.Second weights) = chosen (TextWhereOpen isOpen) (leb _ weights) passedOver _ (λ m. tt) (λ m. tt)
+seen-open selection isOpen address.Unread = tt
+seen-open selection isOpen address.WrongLength = tt
+
+module _ (receiver : Receiver) (is : T (lawful receiver)) (lent : List ℕ) where
+  header-taken-lawful : (found : Header) (bytes : List ℕ) → T (headerFits found) → T (matches (receiver .selection) found)
+      → T (lawful (headerTaken receiver found bytes lent .receiver))
+  unfolding headerTaken
+  header-taken-lawful found bytes f m =
+      stored-lawful (opened (closed receiver) found) 0 bytes
+      (opened-lawful (closed receiver) found (closed-lawful receiver is)
+      (subst (λ (s : Selection). T (matches s found)) (sym (closed-selection receiver)) m) f)
+      (opened-open (closed receiver) found)
+
+  header-seen-lawful : (read : HeaderRead) (bytes : List ℕ) → FitsRead read → T (lawful (headerSeen receiver read bytes lent .receiver))
+  unfolding headerSeen justClosed nothing
+  header-seen-lawful (header.Good found) bytes f =
+      chosen (λ (o : Outcome). T (lawful (o .receiver))) (matches (receiver .selection) found) (headerTaken receiver found bytes lent) (justClosed receiver 3 lent)
+      (λ m. header-taken-lawful found bytes f m)
+      (λ m. closed-lawful receiver is)
+  header-seen-lawful header.Spoiled bytes f = closed-lawful receiver is
+  header-seen-lawful header.WrongLength bytes f = is
+
+  unsure-lawful : (couldBeHeader : Bool) → T (lawful (unsureTaken receiver couldBeHeader lent .receiver))
+  unfolding unsureTaken justClosed
+  unsure-lawful couldBeHeader =
+      chosen (λ (o : Outcome). T (lawful (o .receiver))) (receiver .«open» && couldBeHeader) (justClosed (doubted receiver) 4 lent) _
+      (λ t. closed-lawful (doubted receiver) (doubted-lawful receiver is (both-left (receiver .«open») couldBeHeader t)))
+      (λ t.
+      chosen (λ (r : Receiver). T (lawful r)) (receiver .«open») (doubted receiver) receiver (doubted-lawful receiver is) (λ o. is))
+
+  effect-lawful : (s : Seen) (packet : List ℕ) → TextWhereOpen (receiver .«open») s → T (lawful (effect receiver s packet lent .receiver))
+  unfolding effect nothing textTaken
+  effect-lawful passedOver packet o = is
+  effect-lawful (text row) packet o = stored-lawful receiver row (textOf packet .bytes) is o
+  effect-lawful ourHeader packet o = header-seen-lawful (headerOf packet) (textOf packet .bytes) (header-fits packet)
+  effect-lawful (unsure couldBeHeader) packet o = unsure-lawful couldBeHeader
+
+  -- a lawful receiver stays lawful, whatever the packet
+  pub taken-lawful : (packet : List ℕ) → T (lawful (taken receiver packet lent .receiver))
+  unfolding taken
+  taken-lawful packet =
+      effect-lawful (seen (receiver .selection) (receiver .«open») (addressOf packet)) packet
+      (seen-open (receiver .selection) (receiver .«open») (addressOf packet))
