@@ -267,3 +267,88 @@ module _ (run : Run) (k : ℕ) (receiver : Receiver) (lent : List ℕ) (stands :
                 rows = λ row low top. texted-row i was whole (theirs our) one high row low top (ℕ-discrete row (sentRow s));
               });
         }
+
+    -- ---- our row 0: the page before it closes, and where it matches a page opens
+
+    module _ (our : Ours receiver s) (zeroth : sentRow s ≡ 0) where
+      opened-cells : Cells
+      opened-cells = openingCells (closed receiver .cells) (sentHeader s)
+
+      opened-full : Full opened-cells
+      unfolding opened-cells
+      opened-full = opening-full (closed receiver .cells) (sentHeader s) (closed-full receiver (stands .full))
+
+      read-whole : length read ≡ 40
+      read-whole = bytes-whole 2 s r sent damaged (omega arith)
+
+      header-cell : T (not (oneMissing (rowFound 0 read))) → (c : ℕ) → 8 ≤ c → c < 40 → CellIs (stored 0 read opened-cells) (0 * 40 + c) (getD (sentText s) c 0)
+      unfolding firstColumn
+      header-cell whole c low h =
+          found-character 0 read read-whole opened-cells opened-full (omega arith) c (getD (sentText s) c 0) low h
+          (column-sent 2 s r sent damaged (omega arith) (subst (λ (n : ℕ). T (not (oneMissing (rowFound n read)))) (sym zeroth) whole) c
+          (subst (λ (n : ℕ). firstColumn n ≤ c) (sym zeroth) low) h)
+
+      header-after : T (matches (receiver .selection) (sentHeader s)) → kindOf (entryAt run k) ≡ 2 → After (headerTaken receiver (sentHeader s) read lent)
+      unfolding headerTaken rowStored opened opened-cells
+      header-after matched kind =
+          record {
+            room = lent-room receiver lent (stands .room);
+            selects = closed-selection receiver ∙ stands .selects;
+            full = stored-full 0 read opened-cells opened-full;
+            page =
+                λ o whole.
+                (k,
+                record {
+                  header = is-row m 0 s (theirs our) zeroth;
+                  matched = subst (λ (x : Selection). T (matches x (sentHeader s))) (stands .selects) matched;
+                  kind = kind;
+                  before = omega arith;
+                  none-between = λ n low h. absurd (omega arith);
+                  numbers = refl;
+                  text = header-cell whole;
+                  rows =
+                      λ row low high.
+                      subst (RowIs (stored 0 read opened-cells) row) (sym (none-yet m row (run .lines) k (suc k) (omega arith)))
+                      (λ c h e.
+                      opening-not-fresh (closed receiver .cells) (sentHeader s) (closed-full receiver (stands .full)) (row * 40 + c) (omega arith)
+                      (sym (other-marks 0 read read-whole opened-cells row c h (λ z. omega arith)) ∙ e));
+                });
+          }
+
+      seen-after : (found : HeaderRead) → (found ≡ header.Good (sentHeader s)) ⊎ (found ≡ header.Spoiled)
+          → kindOf (entryAt run k) ≡ headerSeen receiver found read lent .kind → After (headerSeen receiver found read lent)
+      unfolding headerSeen
+      seen-after found (inl e) kind =
+          rw e
+          (chosen (λ (o : Outcome). kindOf (entryAt run k) ≡ o .kind → After o) (matches (receiver .selection) (sentHeader s))
+          (headerTaken receiver (sentHeader s) read lent) (justClosed receiver 3 lent)
+          (λ t kind-is. header-after t kind-is)
+          (λ t kind-is. closed-after receiver 3 (stands .selects) (stands .full))
+          (rw e at kind))
+      seen-after found (inr e) kind = rw e (closed-after receiver 5 (stands .selects) (stands .full))
+
+      headered-after : kindOf (entryAt run k) ≡ headerSeen receiver (headerOf (linePacket r)) read lent .kind
+          → After (headerSeen receiver (headerOf (linePacket r)) read lent)
+      headered-after = seen-after (headerOf (linePacket r)) (header-two 2 s r sent damaged zeroth (omega arith))
+
+  -- ---- an address message was refused
+
+  unsured-after : (couldBeHeader : Bool) → After (unsureTaken receiver couldBeHeader lent)
+  unfolding unsureTaken
+  unsured-after couldBeHeader =
+      chosen After (receiver .«open» && couldBeHeader) (justClosed (doubted receiver) 4 lent) _
+      (λ t. closed-after (doubted receiver) 4 (stands .selects) (stands .full))
+      (λ t.
+      chosen (λ (x : Receiver). Stands run (suc k) x lent) (receiver .«open») (doubted receiver) receiver
+      (λ o. record { room = stands .room; selects = stands .selects; full = stands .full; page = λ is sure. absurd sure })
+      (λ o. shut-after receiver lent (stands .room) (stands .selects) (stands .full) (T-not (receiver .«open») o)))
+
+  -- ---- and so after any line
+
+  pub line-after : T (sentByRules s) → T (damage 2 s r) → (o : Outcome) → kindOf (entryAt run k) ≡ o .kind
+      → Took (Unit {0}) receiver s (linePacket r) lent o → After o
+  line-after sent damaged o kind (left e not-header not-ours) = subst After (sym e) (left-after not-header not-ours)
+  line-after sent damaged o kind (texted e is-open our one high) = subst After (sym e) (texted-after sent damaged our one high)
+  line-after sent damaged o kind (headered e our zeroth) =
+      subst After (sym e) (headered-after sent damaged our zeroth (kind ∙ ap (λ (x : Outcome). x .kind) e))
+  line-after sent damaged o kind (unsured u couldBeHeader e closes) = subst After (sym e) (unsured-after couldBeHeader)
