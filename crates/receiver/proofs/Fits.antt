@@ -1,4 +1,5 @@
 -- The parts of a header that was read are never too large for their bits: each message is below 16.
+use mathlib.Core.Path.{_≡_, subst}
 use mathlib.Core.List.{List, [], _∷_, _++_, map}
 use mathlib.Core.Option.{Option, none, some}
 use Prim.Native.Nat.{ℕ, zero, suc, _<_}
@@ -12,6 +13,7 @@ use Rattle.coding.specs.Hamming.{message}
 use Rattle.coding.proofs.Hamming.{Small, small}
 use Rattle.packet.specs.Headers.{allGood, before, controlOf, headerFrom, headerMessages, headerOf, headerOr, headerValues, lowestFirst}
 use Rattle.packet.specs.Lines.{packetBytes, packetLength}
+use Rattle.packet.specs.declared.Header.{Header}
 use Rattle.packet.specs.declared.HeaderRead.{HeaderRead}
 use Rattle.packet.specs.declared.HeaderRead.the-variants.{Good, Spoiled, WrongLength}
 use Rattle.page.specs.Lawful.{headerFits}
@@ -71,7 +73,7 @@ from-fits messages s =
     (s 2, (control-small (getD messages 3 0) (getD messages 5 0) (getD messages 6 0) (getD messages 7 0), tt)))))))
 
 -- what was read fits, where it is a header
-abbrev pub FitsRead : HeaderRead → Type 0
+abbrev FitsRead : HeaderRead → Type 0
 FitsRead (Good header) = T (headerFits header)
 FitsRead Spoiled = Unit {0}
 FitsRead WrongLength = Unit {0}
@@ -81,9 +83,12 @@ unfolding headerOr
 or-fits none s = tt
 or-fits (some messages) s = from-fits messages s
 
-pub header-fits : (packet : List ℕ) → FitsRead (headerOf packet)
+read-fits : (packet : List ℕ) → FitsRead (headerOf packet)
 unfolding headerOf headerMessages
-header-fits packet =
+read-fits packet =
     chosen FitsRead (eqb (length packet) packetLength) (headerOr (allGood (headerMessages packet))) WrongLength
     (λ t. or-fits (allGood (headerMessages packet)) (messages-small (packetBytes packet 3 8)))
     (λ t. tt)
+
+pub header-fits : (packet : List ℕ) (found : Header) → headerOf packet ≡ Good found → T (headerFits found)
+header-fits packet found e = subst FitsRead e (read-fits packet)

@@ -1,34 +1,24 @@
 -- A lawful receiver stays lawful: a new one is, and every line keeps all that 18 asks, so that 18 never arises from our own hands.
 use mathlib.Core.Path.{_≡_, refl, subst, sym}
-use mathlib.Core.Bool.{Bool, true, false, cond, not, _&&_, _||_}
+use mathlib.Core.Bool.{Bool, false, not, _&&_}
 use mathlib.Core.List.{List}
-use Prim.Native.Nat.{ℕ, _≤_}
-use lib.Dec.{T, eqb, leb, ltb}
-use lib.ListN.{length}
-use Rattle.laws.specs.Every.{every}
-use Rattle.laws.proofs.Bools.{both-left, both-right, passed}
+use Prim.Native.Nat.{ℕ}
+use lib.Dec.{T, T-not}
+use Rattle.laws.proofs.Bools.{both-left, both-right}
 use Rattle.laws.proofs.Keeps.{both, chosen, chosen-first, first-chosen}
-use Rattle.packet.specs.Addresses.{addressOf, lastRow}
-use Rattle.packet.specs.Headers.{headerOf, headerValues, zeroHeader}
-use Rattle.packet.specs.Lines.{framed, packetLength, packetOf}
+use Rattle.packet.specs.Headers.{zeroHeader}
 use Rattle.packet.specs.Texts.{textOf}
-use Rattle.packet.specs.declared.Address.{Address}
-use Rattle.packet.specs.declared.Address.the-variants as address
-use Rattle.packet.specs.declared.Framed.{Framed}
-use Rattle.packet.specs.declared.Framed.the-variants as framed
 use Rattle.packet.specs.declared.Header.{Header}
-use Rattle.packet.specs.declared.HeaderRead.{HeaderRead}
-use Rattle.packet.specs.declared.HeaderRead.the-variants as header
 use Rattle.page.specs.Lawful.{cellsFit, cellsLawful, headerFits}
-use Rattle.page.specs.Records.{recordLength}
-use Rattle.page.specs.declared.Cells.{Cells}
-use Rattle.receiver.specs.Cells.{aged, blank, oneMissing, rowFound}
-use Rattle.receiver.specs.Entries.{Entered, asked, entered, isZero, lawful, lineBy, lineEntered, newReceiver, packetEntered, packetTaken, refusal, stateLawful}
-use Rattle.receiver.specs.Lines.{Outcome, Seen, closed, clears, doubted, effect, firstHarmless, headerSeen, headerTaken, justClosed, nothing, opened, ourHeader, passed as passedOver, rowStored, seen, seenWhole, shut, taken, text, textTaken, unsure, unsureTaken}
+use Rattle.receiver.specs.Cells.{aged, blank}
+use Rattle.receiver.specs.Entries.{isZero, lawful, made, newReceiver, stateLawful, zeroReceiver}
+use Rattle.receiver.specs.Lines.{Outcome, Seen, clears, closed, doubted, headerTaken, justClosed, nothing, opened, rowStored, shut, taken, textTaken}
 use Rattle.receiver.specs.Selections.{inRange, matches}
 use Rattle.receiver.specs.declared.Receiver.{Receiver}
 use Rattle.receiver.specs.declared.Selection.{Selection}
-use Rattle.receiver.proofs.Fits.{FitsRead, header-fits}
+use Rattle.receiver.proofs.Effects.{by-effects}
+use Rattle.receiver.proofs.Fits.{header-fits}
+use Rattle.receiver.proofs.Shows.{OurText}
 use Rattle.receiver.proofs.Sound.{Sound, aged-sound, blank-sound, stored-sound}
 
 -- ---- what 18 asks, part by part
@@ -81,6 +71,17 @@ pub new-lawful : (selection : Selection) → T (inRange selection) → T (lawful
 unfolding newReceiver stateLawful
 new-lawful selection t =
     whole (newReceiver selection) (record { range = t; state = zero-is-zero; fits = zero-fits; sound = blank-sound })
+
+-- as the constructor makes it; what stands beside a refused selection is not lawful, so that its lines are refused too
+pub made-lawful : (selection : Selection) → T (inRange selection) → T (lawful (made selection))
+unfolding made
+made-lawful selection t =
+    chosen (λ (r : Receiver). T (lawful r)) (inRange selection) (newReceiver selection) zeroReceiver (new-lawful selection)
+    (λ n. absurd (T-not (inRange selection) n t))
+
+pub zero-unlawful : lawful zeroReceiver ≡ false
+unfolding lawful zeroReceiver
+zero-unlawful = refl
 
 -- ---- closing, opening, storing and doubting
 
@@ -152,27 +153,6 @@ doubted-lawful receiver t o =
 
 -- ---- one line
 
--- text is seen only with a page open
-abbrev pub TextWhereOpen : Bool → Seen → Type 0
-TextWhereOpen isOpen passedOver = Unit {0}
-TextWhereOpen isOpen (text row) = T isOpen
-TextWhereOpen isOpen ourHeader = Unit {0}
-TextWhereOpen isOpen (unsure couldBeHeader) = Unit {0}
-
-pub seen-open : (selection : Selection) (isOpen : Bool) (a : Address) → TextWhereOpen isOpen (seen selection isOpen a)
-unfolding seen seenWhole
-seen-open selection isOpen (address.Whole magazine row) =
-    chosen (TextWhereOpen isOpen) (eqb magazine (selection .magazine)) _ passedOver
-    (λ m.
-    chosen (TextWhereOpen isOpen) (eqb row 0) ourHeader _ (λ z. tt)
-    (λ z. chosen (TextWhereOpen isOpen) (leb row lastRow && isOpen) (text row) passedOver (λ t. both-right (leb row lastRow) isOpen t) (λ t. tt)))
-    (λ m. tt)
-seen-open selection isOpen (address.First magazine weight1) =
-    chosen (TextWhereOpen isOpen) (eqb magazine (selection .magazine)) _ passedOver (λ m. tt) (λ m. tt)
-seen-open selection isOpen (address.Second weights) = chosen (TextWhereOpen isOpen) (leb _ weights) passedOver _ (λ m. tt) (λ m. tt)
-seen-open selection isOpen address.Unread = tt
-seen-open selection isOpen address.WrongLength = tt
-
 module _ (receiver : Receiver) (is : T (lawful receiver)) (lent : List ℕ) where
   header-taken-lawful : (found : Header) (bytes : List ℕ) → T (headerFits found) → T (matches (receiver .selection) found)
       → T (lawful (headerTaken receiver found bytes lent .receiver))
@@ -183,33 +163,17 @@ module _ (receiver : Receiver) (is : T (lawful receiver)) (lent : List ℕ) wher
       (subst (λ (s : Selection). T (matches s found)) (sym (closed-selection receiver)) m) f)
       (opened-open (closed receiver) found)
 
-  header-seen-lawful : (read : HeaderRead) (bytes : List ℕ) → FitsRead read → T (lawful (headerSeen receiver read bytes lent .receiver))
-  unfolding headerSeen justClosed nothing
-  header-seen-lawful (header.Good found) bytes f =
-      chosen (λ (o : Outcome). T (lawful (o .receiver))) (matches (receiver .selection) found) (headerTaken receiver found bytes lent) (justClosed receiver 3 lent)
-      (λ m. header-taken-lawful found bytes f m)
-      (λ m. closed-lawful receiver is)
-  header-seen-lawful header.Spoiled bytes f = closed-lawful receiver is
-  header-seen-lawful header.WrongLength bytes f = is
-
-  unsure-lawful : (couldBeHeader : Bool) → T (lawful (unsureTaken receiver couldBeHeader lent .receiver))
-  unfolding unsureTaken justClosed
-  unsure-lawful couldBeHeader =
-      chosen (λ (o : Outcome). T (lawful (o .receiver))) (receiver .«open» && couldBeHeader) (justClosed (doubted receiver) 4 lent) _
-      (λ t. closed-lawful (doubted receiver) (doubted-lawful receiver is (both-left (receiver .«open») couldBeHeader t)))
-      (λ t.
-      chosen (λ (r : Receiver). T (lawful r)) (receiver .«open») (doubted receiver) receiver (doubted-lawful receiver is) (λ o. is))
-
-  effect-lawful : (s : Seen) (packet : List ℕ) → TextWhereOpen (receiver .«open») s → T (lawful (effect receiver s packet lent .receiver))
-  unfolding effect nothing textTaken
-  effect-lawful passedOver packet o = is
-  effect-lawful (text row) packet o = stored-lawful receiver row (textOf packet .bytes) is o
-  effect-lawful ourHeader packet o = header-seen-lawful (headerOf packet) (textOf packet .bytes) (header-fits packet)
-  effect-lawful (unsure couldBeHeader) packet o = unsure-lawful couldBeHeader
-
   -- a lawful receiver stays lawful, whatever the packet
   pub taken-lawful : (packet : List ℕ) → T (lawful (taken receiver packet lent .receiver))
-  unfolding taken
+  unfolding nothing textTaken justClosed
   taken-lawful packet =
-      effect-lawful (seen (receiver .selection) (receiver .«open») (addressOf packet)) packet
-      (seen-open (receiver .selection) (receiver .«open») (addressOf packet))
+      by-effects receiver packet lent (λ (s : Seen) (o : Outcome). T (lawful (o .receiver)))
+      is
+      (λ row t. stored-lawful receiver row (textOf packet .bytes) is (t .with-open))
+      (λ found r m. header-taken-lawful found (textOf packet .bytes) (header-fits packet found r) m)
+      (λ found r m. closed-lawful receiver is)
+      (λ r. closed-lawful receiver is)
+      (λ r. is)
+      (λ o. closed-lawful (doubted receiver) (doubted-lawful receiver is o))
+      (λ could o.
+      chosen (λ (r : Receiver). T (lawful r)) (receiver .«open») (doubted receiver) receiver (doubted-lawful receiver is) (λ n. is))

@@ -1,6 +1,14 @@
+pub mod Counts
+pub mod Effects
+pub mod Entering
 pub mod Fits
 pub mod Heard
 pub mod Laid
 pub mod Lawful
 pub mod Laying
+pub mod Marks
+pub mod Rows
+pub mod Shows
+pub mod Sized
 pub mod Sound
+pub mod Writes
