@@ -58,7 +58,7 @@ second-fails : (a b : Bool) → (T b → ⊥) → (a && b) ≡ false
 second-fails true b h = refused b h
 second-fails false b h = refl
 
-length-text : (s : List ℕ) → T (sentByRules s) → length (sentText s) ≡ 40
+pub length-text : (s : List ℕ) → T (sentByRules s) → length (sentText s) ≡ 40
 unfolding sentText
 length-text s sent =
     length-map (packetBytes (linePacket s) 3 40) _ ∙ bytes.length-bytes (linePacket s) 3 40 (omega (arith, sent-packet s sent))

@@ -1,3 +1,4 @@
+pub mod Closings
 pub mod Keeping
 pub mod Storing
 pub mod Through
