@@ -1,5 +1,6 @@
 pub mod Closings
 pub mod Keeping
+pub mod Passing
 pub mod Storing
 pub mod Through
 pub mod Took
