@@ -4,3 +4,4 @@ pub mod Passing
 pub mod Storing
 pub mod Through
 pub mod Took
+pub mod Worked
