@@ -5,18 +5,16 @@ use mathlib.Core.List.{List, [], _∷_, map}
 use mathlib.Core.Option.{Option, none, some}
 use Prim.Native.Nat.{ℕ, _+_, _%_}
 use native.Mathlib.Nat.{zero-add}
-use native.Mathlib.Omega.{arith}
 use lib.Count.{ones}
 use lib.ListN.{drop}
 use Rattle.coding.specs.Bits.{odd}
 use Rattle.coding.specs.Characters.{character}
 use Rattle.packet.specs.Texts.{headerColumn, textOf}
 use Rattle.receiver.specs.Cells.{firstColumn, howMany, rowFound}
-use Rattle.receiver.specs.Lines.{Outcome, Seen, headerTaken, justClosed, nothing, taken, text, textTaken}
+use Rattle.receiver.specs.Lines.{Outcome, headerTaken, justClosed, nothing, taken, textTaken}
 use Rattle.receiver.specs.declared.Receiver.{Receiver}
-use Rattle.receiver.proofs.Effects.{Opens, Stores, by-effects, kind-1-stores, kind-2-opens, seenBy}
-use Rattle.receiver.proofs.Rows.{header-first, text-first}
-use Rattle.receiver.proofs.Shows.{OurText}
+use Rattle.receiver.proofs.Effects.{by-effects, kind-1-stores, kind-2-opens}
+use Rattle.receiver.proofs.Rows.{text-first}
 
 -- how many bytes have an odd count of ones
 unfoldable pub oddBytes : List ℕ → ℕ
@@ -61,12 +59,12 @@ module _ (receiver : Receiver) (packet lent : List ℕ) where
   pub none-stored-none-counted : (taken receiver packet lent .kind ≡ 1 → ⊥) → (taken receiver packet lent .kind ≡ 2 → ⊥) → taken receiver packet lent .count ≡ 0
   unfolding nothing textTaken headerTaken justClosed
   none-stored-none-counted =
-      by-effects receiver packet lent (λ (s : Seen) (o : Outcome). (o .kind ≡ 1 → ⊥) → (o .kind ≡ 2 → ⊥) → o .count ≡ 0)
+      by-effects receiver packet lent (λ (o : Outcome). (o .kind ≡ 1 → ⊥) → (o .kind ≡ 2 → ⊥) → o .count ≡ 0)
       (λ n m. refl)
       (λ row t n m. absurd (n refl))
-      (λ found r t n m. absurd (m refl))
-      (λ found r t n m. refl)
-      (λ r n m. refl)
-      (λ r n m. refl)
+      (λ a found r t n m. absurd (m refl))
+      (λ a found r t n m. refl)
+      (λ a r n m. refl)
+      (λ a r n m. refl)
       (λ o n m. refl)
       (λ could o n m. refl)

@@ -1,7 +1,7 @@
 -- The entries, asked of a lawful receiver: 18 is not given, the receiver that comes back is lawful, and a good line of a lent record that is long
 -- enough is taken.
-use mathlib.Core.Path.{_≡_, refl, _∙_, ap}
-use mathlib.Core.Bool.{Bool, cond}
+use mathlib.Core.Path.{_≡_, _∙_, ap}
+use mathlib.Core.Bool.{cond}
 use mathlib.Core.List.{List}
 use Prim.Native.Nat.{ℕ, _≤_}
 use native.Mathlib.Omega.{arith}

@@ -64,13 +64,22 @@ control-small a b c d =
 from-fits : (messages : List ℕ) → ((k : ℕ) → getD messages k 0 < 16) → T (headerFits (headerFrom messages))
 unfolding headerFits headerFrom headerValues
 from-fits messages s =
-    fit-passes headerWidths (headerValues (headerFrom messages))
-    (s 1,
-    (s 0,
-    (mod-lt (getD messages 5 0) (lit< tt),
-    (s 4,
-    (mod-lt (getD messages 3 0) (lit< tt),
-    (s 2, (control-small (getD messages 3 0) (getD messages 5 0) (getD messages 6 0) (getD messages 7 0), tt)))))))
+    fit-passes headerWidths (headerValues (headerFrom messages)) (
+      s 1,
+      (
+        s 0,
+        (
+          mod-lt (getD messages 5 0) (lit< tt),
+          (
+            s 4,
+            (
+              mod-lt (getD messages 3 0) (lit< tt),
+              (s 2, (control-small (getD messages 3 0) (getD messages 5 0) (getD messages 6 0) (getD messages 7 0), tt)),
+            ),
+          ),
+        ),
+      ),
+    )
 
 -- what was read fits, where it is a header
 abbrev FitsRead : HeaderRead → Type 0

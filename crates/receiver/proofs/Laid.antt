@@ -1,9 +1,9 @@
 -- What was laid over the cells, seen cell by cell: outside its places nothing changes, inside each cell is what is kept of it. And a test over all
 -- cells stays true where what is kept passes it.
-use mathlib.Core.Path.{_≡_, refl, ap, _∙_}
-use mathlib.Core.Bool.{Bool, true, false, _&&_}
+use mathlib.Core.Path.{_≡_, refl, ap}
+use mathlib.Core.Bool.{Bool}
 use mathlib.Core.List.{List, [], _∷_}
-use mathlib.Core.Option.{Option, none, some}
+use mathlib.Core.Option.{Option, none}
 use Prim.Native.Nat.{ℕ, zero, suc, _+_, _≤_, _<_}
 use native.Mathlib.Nat.{suc-add, zero-add, le-of-suc-le-suc, not-suc-le-zero}
 use native.Mathlib.Omega.{arith}
@@ -80,7 +80,7 @@ module _ (keep : Option ℕ → ℕ → ℕ) where
 
 -- and over the pairs of cells of two lists, over both of which something was laid
 module _ (keepˡ keepʳ : Option ℕ → ℕ → ℕ) (test : ℕ → ℕ → Bool)
-  (keeps : (f : Option ℕ) (m c : ℕ) → T (test m c) → T (test (keepˡ f m) (keepʳ f c))) where
+    (keeps : (f : Option ℕ) (m c : ℕ) → T (test m c) → T (test (keepˡ f m) (keepʳ f c))) where
   pub every-pair-laid : (place : ℕ) (found : List (Option ℕ)) (ms cs : List ℕ) → T (everyPair test ms cs)
       → T (everyPair test (laid keepˡ place found ms) (laid keepʳ place found cs))
   unfolding laid everyPair

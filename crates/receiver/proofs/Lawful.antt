@@ -1,6 +1,6 @@
 -- A lawful receiver stays lawful: a new one is, and every line keeps all that 18 asks, so that 18 never arises from our own hands.
 use mathlib.Core.Path.{_≡_, refl, subst, sym}
-use mathlib.Core.Bool.{Bool, false, not, _&&_}
+use mathlib.Core.Bool.{false, not, _&&_}
 use mathlib.Core.List.{List}
 use Prim.Native.Nat.{ℕ}
 use lib.Dec.{T, T-not}
@@ -12,13 +12,12 @@ use Rattle.packet.specs.declared.Header.{Header}
 use Rattle.page.specs.Lawful.{cellsFit, cellsLawful, headerFits}
 use Rattle.receiver.specs.Cells.{aged, blank}
 use Rattle.receiver.specs.Entries.{isZero, lawful, made, newReceiver, stateLawful, zeroReceiver}
-use Rattle.receiver.specs.Lines.{Outcome, Seen, clears, closed, doubted, headerTaken, justClosed, nothing, opened, rowStored, shut, taken, textTaken}
+use Rattle.receiver.specs.Lines.{Outcome, clears, closed, doubted, headerTaken, justClosed, nothing, opened, rowStored, shut, taken, textTaken}
 use Rattle.receiver.specs.Selections.{inRange, matches}
 use Rattle.receiver.specs.declared.Receiver.{Receiver}
 use Rattle.receiver.specs.declared.Selection.{Selection}
 use Rattle.receiver.proofs.Effects.{by-effects}
 use Rattle.receiver.proofs.Fits.{header-fits}
-use Rattle.receiver.proofs.Shows.{OurText}
 use Rattle.receiver.proofs.Sound.{Sound, aged-sound, blank-sound, stored-sound}
 
 -- ---- what 18 asks, part by part
@@ -167,13 +166,13 @@ module _ (receiver : Receiver) (is : T (lawful receiver)) (lent : List ℕ) wher
   pub taken-lawful : (packet : List ℕ) → T (lawful (taken receiver packet lent .receiver))
   unfolding nothing textTaken justClosed
   taken-lawful packet =
-      by-effects receiver packet lent (λ (s : Seen) (o : Outcome). T (lawful (o .receiver)))
+      by-effects receiver packet lent (λ (o : Outcome). T (lawful (o .receiver)))
       is
       (λ row t. stored-lawful receiver row (textOf packet .bytes) is (t .with-open))
-      (λ found r m. header-taken-lawful found (textOf packet .bytes) (header-fits packet found r) m)
-      (λ found r m. closed-lawful receiver is)
-      (λ r. closed-lawful receiver is)
-      (λ r. is)
+      (λ a found r m. header-taken-lawful found (textOf packet .bytes) (header-fits packet found r) m)
+      (λ a found r m. closed-lawful receiver is)
+      (λ a r. closed-lawful receiver is)
+      (λ a r. is)
       (λ o. closed-lawful (doubted receiver) (doubted-lawful receiver is o))
       (λ could o.
       chosen (λ (r : Receiver). T (lawful r)) (receiver .«open») (doubted receiver) receiver (doubted-lawful receiver is) (λ n. is))

@@ -1,3 +1,5 @@
+pub mod Carried
+pub mod Closings
 pub mod Counts
 pub mod Effects
 pub mod Entering
@@ -7,8 +9,11 @@ pub mod Laid
 pub mod Lawful
 pub mod Laying
 pub mod Marks
+pub mod Resting
 pub mod Rows
 pub mod Shows
 pub mod Sized
 pub mod Sound
+pub mod Steps
+pub mod Undoubted
 pub mod Writes

@@ -1,15 +1,15 @@
 -- Marks: after a clearing none is older, right after an opening none is fresh, and row 0's columns 0 to 7 stay space and never.
-use mathlib.Core.Path.{_≡_, refl, _∙_, ap, sym, subst}
-use mathlib.Core.Bool.{Bool, true, false, cond, not, _&&_, _||_}
-use mathlib.Core.List.{List, [], _∷_, map}
+use mathlib.Core.Path.{_≡_, _∙_, sym, subst}
+use mathlib.Core.Bool.{Bool, true, not, _||_}
+use mathlib.Core.List.{List, [], _∷_}
 use mathlib.Core.Option.{Option, none, some}
-use Prim.Native.Nat.{ℕ, zero, suc, _≤_, _<_}
+use Prim.Native.Nat.{ℕ, zero, suc, _<_}
 use native.Mathlib.Omega.{arith}
 use lib.Dec.{T, T-not, eqb, eqb→eq, eqb-refl, leb}
 use lib.ListN.{drop, getD, length, length-take, take}
 use lib.Seq.{getD-take}
 use Rattle.laws.specs.Every.{every, everyPair}
-use Rattle.laws.proofs.Bools.{both-left, both-right, passed, where-asked}
+use Rattle.laws.proofs.Bools.{both-left, both-right, where-asked}
 use Rattle.laws.proofs.Every.{every-at, every-pair-at}
 use Rattle.laws.proofs.Keeps.{chosen, every-mapped, every-replicate}
 use Rattle.coding.specs.Characters.{character}
@@ -22,7 +22,7 @@ use Rattle.receiver.specs.Cells.{age, aged, blank, firstColumn, fresh, k
 use Rattle.receiver.specs.Entries.{lawful}
 use Rattle.receiver.specs.Lines.{Outcome, clears, closed, headerTaken, opened, rowStored, taken}
 use Rattle.receiver.specs.declared.Receiver.{Receiver}
-use Rattle.receiver.proofs.Effects.{Opens, kind-2-opens}
+use Rattle.receiver.proofs.Effects.{kind-2-opens}
 use Rattle.receiver.proofs.Laid.{every-laid}
 use Rattle.receiver.proofs.Lawful.{parts, taken-lawful}
 

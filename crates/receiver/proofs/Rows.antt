@@ -2,9 +2,9 @@
 -- the others stay.
 use mathlib.Core.Path.{_≡_, refl, _∙_, ap, sym}
 use mathlib.Core.Bool.{Bool, cond}
-use mathlib.Core.List.{List, map}
+use mathlib.Core.List.{List}
 use mathlib.Core.Option.{Option, none, some}
-use Prim.Native.Nat.{ℕ, zero, suc, _+_, _-_, _*_, _≤_, _<_}
+use Prim.Native.Nat.{ℕ, _+_, _-_, _*_, _≤_, _<_}
 use native.Mathlib.Decide.{decLt}
 use native.Mathlib.Omega.{arith}
 use borrow.Author.Tests.{ne-eqb}
@@ -15,9 +15,9 @@ use Rattle.laws.proofs.Keeps.{chosen}
 use Rattle.laws.proofs.Lists.{getD-map}
 use Rattle.coding.specs.Characters.{character}
 use Rattle.packet.specs.Texts.{columns, headerColumn}
-use Rattle.page.specs.Records.{cellCount, rows}
+use Rattle.page.specs.Records.{rows}
 use Rattle.page.specs.declared.Cells.{Cells}
-use Rattle.receiver.specs.Cells.{age, aged, firstColumn, fresh, keptCharacter, keptMark, laid, rowFound, rowPlace, stored}
+use Rattle.receiver.specs.Cells.{firstColumn, fresh, keptCharacter, keptMark, laid, rowFound, rowPlace, stored}
 use Rattle.receiver.proofs.Laid.{laid-after, laid-at, laid-before}
 use Rattle.receiver.proofs.Sized.{Sized}
 
@@ -134,9 +134,9 @@ module _ (row : ℕ) (bytes : List ℕ) (whole : length bytes ≡ columns) (cell
     unfolding stored over keptCharacter keptMark
     stored-character code e = (
       row-column row bytes whole keptCharacter (cells .characters) column from below (omega arith)
-      ∙ ap (λ (f : Option ℕ). keptCharacter f (characterAt cells row column)) e,
+          ∙ ap (λ (f : Option ℕ). keptCharacter f (characterAt cells row column)) e,
       row-column row bytes whole keptMark (cells .marks) column from below (omega arith)
-      ∙ ap (λ (f : Option ℕ). keptMark f (markAt cells row column)) e,
+          ∙ ap (λ (f : Option ℕ). keptMark f (markAt cells row column)) e,
     )
 
     -- and one of even parity
@@ -144,7 +144,7 @@ module _ (row : ℕ) (bytes : List ℕ) (whole : length bytes ≡ columns) (cell
     unfolding stored over keptCharacter keptMark
     stored-nothing e = (
       row-column row bytes whole keptCharacter (cells .characters) column from below (omega arith)
-      ∙ ap (λ (f : Option ℕ). keptCharacter f (characterAt cells row column)) e,
+          ∙ ap (λ (f : Option ℕ). keptCharacter f (characterAt cells row column)) e,
       row-column row bytes whole keptMark (cells .marks) column from below (omega arith)
-      ∙ ap (λ (f : Option ℕ). keptMark f (markAt cells row column)) e,
+          ∙ ap (λ (f : Option ℕ). keptMark f (markAt cells row column)) e,
     )

@@ -1,9 +1,7 @@
 -- The cells of a new receiver are 960, and every line keeps them so many.
 use mathlib.Core.Path.{_≡_, refl, _∙_}
-use mathlib.Core.Bool.{Bool, cond}
-use mathlib.Core.List.{List, map}
+use mathlib.Core.List.{List}
 use Prim.Native.Nat.{ℕ}
-use lib.Dec.{T}
 use lib.ListN.{length, length-map, length-replicate}
 use Rattle.laws.proofs.Keeps.{chosen}
 use Rattle.packet.specs.Texts.{textOf}
@@ -13,7 +11,7 @@ use Rattle.page.specs.Records.{cellCount}
 use Rattle.page.specs.declared.Cells.{Cells}
 use Rattle.receiver.specs.Cells.{age, aged, blank, keptCharacter, keptMark, rowFound, rowPlace, stored}
 use Rattle.receiver.specs.Entries.{newReceiver}
-use Rattle.receiver.specs.Lines.{Outcome, Seen, clears, closed, doubted, headerTaken, justClosed, nothing, opened, rowStored, shut, taken, textTaken}
+use Rattle.receiver.specs.Lines.{Outcome, clears, closed, doubted, headerTaken, justClosed, nothing, opened, rowStored, shut, taken, textTaken}
 use Rattle.receiver.specs.declared.Receiver.{Receiver}
 use Rattle.receiver.specs.declared.Selection.{Selection}
 use Rattle.receiver.proofs.Effects.{by-effects}
@@ -58,14 +56,14 @@ module _ (receiver : Receiver) (is : Sized (receiver .cells)) where
   pub taken-sized : (packet lent : List ℕ) → Sized (taken receiver packet lent .receiver .cells)
   unfolding nothing textTaken headerTaken justClosed rowStored doubted
   taken-sized packet lent =
-      by-effects receiver packet lent (λ (s : Seen) (o : Outcome). Sized (o .receiver .cells))
+      by-effects receiver packet lent (λ (o : Outcome). Sized (o .receiver .cells))
       is
       (λ row t. stored-sized row (textOf packet .bytes) (receiver .cells) is)
-      (λ found r m.
+      (λ a found r m.
       stored-sized 0 (textOf packet .bytes) (opened (closed receiver) found .cells) (opened-sized (closed receiver) found closed-sized))
-      (λ found r m. closed-sized)
-      (λ r. closed-sized)
-      (λ r. is)
+      (λ a found r m. closed-sized)
+      (λ a r. closed-sized)
+      (λ a r. is)
       (λ o. doubted-closed)
       (λ could o. chosen (λ (x : Receiver). Sized (x .cells)) (receiver .«open») (doubted receiver) receiver (λ t. doubted-sized) (λ t. is))
     where

@@ -1,22 +1,21 @@
 -- Storing, clearing and ageing keep what 24 and 23 ask of cells: a stored character is below 128 and marked fresh, and no row is stored over row 0's
 -- columns 0 to 7.
-use mathlib.Core.Path.{_≡_, refl, ap, sym, subst}
-use mathlib.Core.Bool.{Bool, true, false, cond, not, _&&_, _||_}
-use mathlib.Core.List.{List, [], _∷_, map}
+use mathlib.Core.Bool.{Bool, true}
+use mathlib.Core.List.{List, map}
 use mathlib.Core.Option.{Option, none, some}
-use Prim.Native.Nat.{ℕ, zero, suc, _+_, _*_, _%_, _≤_, _<_}
+use Prim.Native.Nat.{ℕ, zero, suc, _%_, _≤_}
 use native.Mathlib.Nat.{mod-lt}
 use native.Mathlib.Omega.{arith}
 use lib.Count.{ones}
-use lib.Dec.{T, eqb, eqb→eq, leb, lit<, lit≤, lt→ltb}
-use lib.ListN.{drop, getD, length, take}
+use lib.Dec.{T, eqb, eqb→eq, lit<, lit≤, lt→ltb}
+use lib.ListN.{drop, take}
 use Rattle.laws.specs.Every.{every, everyPair}
 use Rattle.laws.specs.Fields.{fits}
 use Rattle.laws.proofs.Bools.{both-left, both-right}
-use Rattle.laws.proofs.Keeps.{both, chosen, chosen-first, first-chosen, every-map, every-mapped, every-pair-map, every-pair-replicate, every-replicate, take-map}
+use Rattle.laws.proofs.Keeps.{both, chosen, every-map, every-mapped, every-pair-map, every-pair-replicate, every-replicate, take-map}
 use Rattle.coding.specs.Bits.{odd}
 use Rattle.coding.specs.Characters.{character}
-use Rattle.page.specs.Lawful.{cellLawful, cellsFit, cellsLawful, headerFits, isNever, never, space}
+use Rattle.page.specs.Lawful.{cellLawful, cellsFit, cellsLawful, isNever, never, space}
 use Rattle.page.specs.Records.{cellCount, characterWidth, markWidth}
 use Rattle.page.specs.declared.Cells.{Cells}
 use Rattle.packet.specs.Texts.{headerColumn}
@@ -33,11 +32,11 @@ pub blank-sound : Sound blank
 unfolding cellsFit cellsLawful blank
 blank-sound = (
   both (every (fits markWidth) (blank .marks)) (every (fits characterWidth) (blank .characters))
-  (every-replicate (fits markWidth) cellCount never tt)
-  (every-replicate (fits characterWidth) cellCount space tt),
+      (every-replicate (fits markWidth) cellCount never tt)
+      (every-replicate (fits characterWidth) cellCount space tt),
   both (everyPair cellLawful (blank .marks) (blank .characters)) (every isNever (take headerColumn (blank .marks)))
-  (every-pair-replicate cellLawful cellCount never space tt)
-  tt,
+      (every-pair-replicate cellLawful cellCount never space tt)
+      tt,
 )
 
 -- a stored character is below 128
@@ -86,17 +85,16 @@ stored-sound row bytes cells s =
     let pairs = everyPair cellLawful (cells .marks) (cells .characters) in
     let head = every isNever (take headerColumn (cells .marks)) in
     let marks = laid keptMark (rowPlace row) (rowFound row bytes) (cells .marks) in
-    let characters = laid keptCharacter (rowPlace row) (rowFound row bytes) (cells .characters) in
-    (
+    let characters = laid keptCharacter (rowPlace row) (rowFound row bytes) (cells .characters) in (
       both (every (fits markWidth) marks) (every (fits characterWidth) characters)
-      (every-laid keptMark small (fits markWidth) kept-mark (rowPlace row) (rowFound row bytes) (cells .marks) (found-small row bytes)
-      (both-left marksFit charactersFit (s .0)))
-      (every-laid keptCharacter small (fits characterWidth) kept-character (rowPlace row) (rowFound row bytes) (cells .characters)
-      (found-small row bytes) (both-right marksFit charactersFit (s .0))),
+          (every-laid keptMark small (fits markWidth) kept-mark (rowPlace row) (rowFound row bytes) (cells .marks) (found-small row bytes)
+          (both-left marksFit charactersFit (s .0)))
+          (every-laid keptCharacter small (fits characterWidth) kept-character (rowPlace row) (rowFound row bytes) (cells .characters)
+          (found-small row bytes) (both-right marksFit charactersFit (s .0))),
       both (everyPair cellLawful marks characters) (every isNever (take headerColumn marks))
-      (every-pair-laid keptMark keptCharacter cellLawful kept-cell (rowPlace row) (rowFound row bytes) (cells .marks) (cells .characters)
-      (both-left pairs head (s .1)))
-      (rw (take-laid keptMark headerColumn (rowPlace row) (rowFound row bytes) (cells .marks) (header-kept row)) (both-right pairs head (s .1))),
+          (every-pair-laid keptMark keptCharacter cellLawful kept-cell (rowPlace row) (rowFound row bytes) (cells .marks) (cells .characters)
+          (both-left pairs head (s .1)))
+          (rw (take-laid keptMark headerColumn (rowPlace row) (rowFound row bytes) (cells .marks) (header-kept row)) (both-right pairs head (s .1))),
     )
 
 -- fresh becomes older, and every other mark stays
@@ -122,13 +120,12 @@ aged-sound cells s =
     let marksFit = every (fits markWidth) (cells .marks) in
     let charactersFit = every (fits characterWidth) (cells .characters) in
     let pairs = everyPair cellLawful (cells .marks) (cells .characters) in
-    let head = every isNever (take headerColumn (cells .marks)) in
-    (
+    let head = every isNever (take headerColumn (cells .marks)) in (
       both (every (fits markWidth) (map age (cells .marks))) charactersFit
-      (every-map (fits markWidth) (fits markWidth) age aged-fits (cells .marks) (both-left marksFit charactersFit (s .0)))
-      (both-right marksFit charactersFit (s .0)),
+          (every-map (fits markWidth) (fits markWidth) age aged-fits (cells .marks) (both-left marksFit charactersFit (s .0)))
+          (both-right marksFit charactersFit (s .0)),
       both (everyPair cellLawful (map age (cells .marks)) (cells .characters)) (every isNever (take headerColumn (map age (cells .marks))))
-      (every-pair-map cellLawful age aged-lawful (cells .marks) (cells .characters) (both-left pairs head (s .1)))
-      (rw (take-map age headerColumn (cells .marks))
-      (every-map isNever isNever age aged-never (take headerColumn (cells .marks)) (both-right pairs head (s .1)))),
+          (every-pair-map cellLawful age aged-lawful (cells .marks) (cells .characters) (both-left pairs head (s .1)))
+          (rw (take-map age headerColumn (cells .marks))
+          (every-map isNever isNever age aged-never (take headerColumn (cells .marks)) (both-right pairs head (s .1)))),
     )

@@ -3,6 +3,7 @@
 use mathlib.Core.Path.{_≡_, refl, _∙_, ap, sym, subst}
 use mathlib.Core.Bool.{Bool, true, false, cond, _&&_}
 use mathlib.Core.List.{List}
+use mathlib.Core.Logic.{_⊎_, inl, inr}
 use Prim.Native.Nat.{ℕ, _≤_}
 use borrow.Author.Tests.{le-leb}
 use lib.Dec.{T, eqb, eqb→eq, leb}
@@ -15,11 +16,13 @@ use Rattle.page.specs.Writing as writing
 use Rattle.page.specs.declared.WriteAnswer.{WriteAnswer}
 use Rattle.page.specs.declared.WriteAnswer.the-variants.{Written, ShortRecord, TooLarge, BadDigit, UnlawfulCells}
 use Rattle.receiver.specs.Entries.{lawful}
-use Rattle.receiver.specs.Lines.{held, lentAfter}
+use Rattle.receiver.specs.Lines.{Outcome, closingWord, doubted, headerTaken, held, justClosed, lentAfter, nothing, taken, textTaken}
 use Rattle.receiver.specs.Selections.{inRange, matches, timeMatches, whenInRange}
+use Rattle.receiver.specs.declared.Closing.the-variants as closing
 use Rattle.receiver.specs.declared.Receiver.{Receiver}
-use Rattle.receiver.proofs.Effects.{lent-open}
-use Rattle.receiver.proofs.Lawful.{Parts, open-matches, parts}
+use Rattle.receiver.proofs.Closings.{lent-open, none-open}
+use Rattle.receiver.proofs.Effects.{by-effects}
+use Rattle.receiver.proofs.Lawful.{doubted-lawful, open-matches, parts}
 
 -- the writer's three tests, each passed
 all-passed : (a b c : Bool) → T a → T b → T c → cond a (cond b (cond c Written UnlawfulCells) BadDigit) TooLarge ≡ Written
@@ -75,3 +78,30 @@ module _ (receiver : Receiver) (is : T (lawful receiver)) (open-now : T (receive
     closing-writes-the-page =
         lent-open receiver lent (passed (receiver .«open») open-now)
         ∙ ap (λ (a : WriteAnswer). writing.lentAfter a (held receiver) lent) (sym closing-answer)
+
+-- a line that closes writes the page that was held, in doubt where the line put it there
+module _ (receiver : Receiver) (is : T (lawful receiver)) (packet lent : List ℕ) (long : recordLength ≤ length lent) where
+  abbrev Wrote : Outcome → Type 0
+  Wrote outcome =
+      (outcome .lent ≡ writing.written (held receiver) lent)
+      ⊎ ((outcome .kind ≡ 4) × (outcome .lent ≡ writing.written (held (doubted receiver)) lent))
+
+  closed-wrote : (closingWord receiver ≡ closing.None → ⊥) → lentAfter receiver lent ≡ writing.written (held receiver) lent
+  closed-wrote closes = by (receiver .«open») refl
+    where
+      by : (b : Bool) → receiver .«open» ≡ b → lentAfter receiver lent ≡ writing.written (held receiver) lent
+      by true o = closing-writes-the-page receiver is (subst T (sym o) tt) lent long
+      by false o = absurd (closes (none-open receiver o))
+
+  pub closing-line-writes : (taken receiver packet lent .closing ≡ closing.None → ⊥) → Wrote (taken receiver packet lent)
+  unfolding nothing textTaken headerTaken justClosed doubted
+  closing-line-writes =
+      by-effects receiver packet lent (λ (o : Outcome). (o .closing ≡ closing.None → ⊥) → Wrote o)
+      (λ n. absurd (n refl))
+      (λ row t n. absurd (n refl))
+      (λ a found r m n. inl (closed-wrote n))
+      (λ a found r m n. inl (closed-wrote n))
+      (λ a r n. inl (closed-wrote n))
+      (λ a r n. absurd (n refl))
+      (λ o n. inr (refl, closing-writes-the-page (doubted receiver) (doubted-lawful receiver is o) o lent long))
+      (λ could o n. absurd (n refl))

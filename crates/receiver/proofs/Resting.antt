@@ -1,0 +1,128 @@
+-- A lawful receiver with no page open: without doubt and with digits, time and control bits 0, so that closing leaves just this state, and a line of kind
+-- 4 changes nothing. And the sizes of a line's kind and count.
+use mathlib.Core.Path.{_≡_, refl, ap, sym}
+use mathlib.Core.Bool.{Bool, true, false, cond, not, _&&_}
+use mathlib.Core.List.{List}
+use Prim.Native.Nat.{ℕ, _≤_, _<_}
+use native.Mathlib.Omega.{arith}
+use lib.Dec.{T, eqb, eqb→eq, lit<, lit≤}
+use lib.ListN.{getD}
+use Rattle.laws.proofs.Bools.{both-left, both-right}
+use Rattle.laws.proofs.Every.{every-at}
+use Rattle.laws.proofs.Keeps.{chosen}
+use Rattle.packet.specs.Headers.{headerValues, zeroHeader}
+use Rattle.packet.specs.Texts.{columns, textOf}
+use Rattle.packet.specs.declared.Header.{Header}
+use Rattle.receiver.specs.Cells.{howMany, rowFound}
+use Rattle.receiver.specs.Entries.{isZero, lawful, stateLawful}
+use Rattle.receiver.specs.Lines.{Outcome, closed, doubted, headerTaken, justClosed, nothing, shut, taken, textTaken, unsureTaken}
+use Rattle.receiver.specs.Selections.{matches}
+use Rattle.receiver.specs.declared.Closing.the-variants as closing
+use Rattle.receiver.specs.declared.Receiver.{Receiver}
+use Rattle.receiver.proofs.Effects.{by-effects}
+use Rattle.receiver.proofs.Lawful.{parts}
+use Rattle.receiver.proofs.Laying.{count-most}
+use Rattle.receiver.proofs.Rows.{length-found}
+use Rattle.receiver.proofs.Undoubted.{length-text}
+
+-- ---- none open
+
+-- a header whose values are all 0 is the zero header
+zero-header : (header : Header) → T (isZero header) → header ≡ zeroHeader
+unfolding isZero headerValues zeroHeader
+zero-header header t =
+    let tens = value 0 (lit< tt) in
+    let units = value 1 (lit< tt) in
+    let hoursTens = value 2 (lit< tt) in
+    let hoursUnits = value 3 (lit< tt) in
+    let minutesTens = value 4 (lit< tt) in
+    let minutesUnits = value 5 (lit< tt) in
+    let control = value 6 (lit< tt) in
+    λ i.
+    record {
+      tens = tens i;
+      units = units i;
+      «hours_tens» = hoursTens i;
+      «hours_units» = hoursUnits i;
+      «minutes_tens» = minutesTens i;
+      «minutes_units» = minutesUnits i;
+      control = control i;
+    }
+  where
+    value : (k : ℕ) → k < 7 → getD (headerValues header) k 0 ≡ 0
+    value k h = sym (eqb→eq 0 (getD (headerValues header) k 0) (every-at (eqb 0) (headerValues header) t k 0 h))
+
+chosen-second : (b x y : Bool) → b ≡ false → T (cond b x y) → T y
+chosen-second true x y e t = absurd (let z : _≡_ {A = ℕ} 0 1 = cc in omega arith)
+chosen-second false x y e t = t
+
+is-not : (b : Bool) → T (not b) → b ≡ false
+is-not true t = absurd t
+is-not false t = refl
+
+module _ (receiver : Receiver) (is : T (lawful receiver)) where
+  pub none-open-rests : receiver .«open» ≡ false → receiver ≡ shut receiver
+  unfolding stateLawful shut
+  none-open-rests o =
+      let state = chosen-second (receiver .«open») (matches (receiver .selection) (receiver .header)) (not (receiver .doubt) && isZero (receiver .header)) o (parts receiver is .state) in
+      let doubt = is-not (receiver .doubt) (both-left (not (receiver .doubt)) (isZero (receiver .header)) state) in
+      let header = zero-header (receiver .header) (both-right (not (receiver .doubt)) (isZero (receiver .header)) state) in
+      λ i.
+      record {
+        selection = receiver .selection;
+        «open» = o i;
+        doubt = doubt i;
+        header = header i;
+        cells = receiver .cells;
+      }
+
+  -- after closing, whether a page was open or not, digits, time, control bits and doubt are 0, and the cells stay
+  pub closed-rests : closed receiver ≡ shut receiver
+  unfolding closed
+  closed-rests =
+      chosen (λ (r : Receiver). r ≡ shut receiver) (receiver .«open») (shut receiver) receiver (λ o. refl)
+      (λ o. none-open-rests (is-not (receiver .«open») o))
+
+-- an unsure line with none open is of kind 4 and changes nothing
+pub unsure-unopened : (receiver : Receiver) (could : Bool) (lent : List ℕ) → receiver .«open» ≡ false
+    → unsureTaken receiver could lent ≡ record { receiver = receiver; kind = 4; count = 0; closing = closing.None; lent = lent }
+unfolding unsureTaken
+unsure-unopened receiver could lent o = ap by o
+  where
+    by : Bool → Outcome
+    by isOpen =
+        cond (isOpen && could) (justClosed (doubted receiver) 4 lent)
+        (record { receiver = cond isOpen (doubted receiver) receiver; kind = 4; count = 0; closing = closing.None; lent = lent })
+
+-- ---- sizes
+
+module _ (receiver : Receiver) (packet lent : List ℕ) where
+  pub kind-most : taken receiver packet lent .kind ≤ 5
+  unfolding nothing textTaken headerTaken justClosed
+  kind-most =
+      by-effects receiver packet lent (λ (o : Outcome). o .kind ≤ 5)
+      (lit≤ tt)
+      (λ row t. lit≤ tt)
+      (λ a found r m. lit≤ tt)
+      (λ a found r m. lit≤ tt)
+      (λ a r. lit≤ tt)
+      (λ a r. lit≤ tt)
+      (λ o. lit≤ tt)
+      (λ could o. lit≤ tt)
+
+  row-count : (row : ℕ) → howMany (rowFound row (textOf packet .bytes)) ≤ columns
+  row-count row =
+      omega (arith, count-most (rowFound row (textOf packet .bytes)), length-found row (textOf packet .bytes) (length-text packet))
+
+  pub count-at-most : taken receiver packet lent .count ≤ columns
+  unfolding nothing textTaken headerTaken justClosed
+  count-at-most =
+      by-effects receiver packet lent (λ (o : Outcome). o .count ≤ columns)
+      (lit≤ tt)
+      (λ row t. row-count row)
+      (λ a found r m. row-count 0)
+      (λ a found r m. lit≤ tt)
+      (λ a r. lit≤ tt)
+      (λ a r. lit≤ tt)
+      (λ o. lit≤ tt)
+      (λ could o. lit≤ tt)
