@@ -27,90 +27,90 @@ use Rattle.page.specs.declared.Page.{Page}
 use Rattle.page.specs.declared.ReadAnswer.the-variants.{Read}
 use Rattle.page.specs.declared.WriteAnswer.the-variants as writing
 use Rattle.receiver.specs.Cells.{fresh}
-use Rattle.receiver.specs.Entries.{Entered, closingNumber, entered, lawful}
-use Rattle.receiver.specs.Lines.{Outcome, held}
-use Rattle.receiver.specs.declared.Closing.the-variants.{Clean}
+use Rattle.receiver.specs.Entries.{Entered, closingNumber, lawful}
+use Rattle.receiver.specs.Lines.{held}
+use Rattle.receiver.specs.declared.Closing.{Closing}
+use Rattle.receiver.specs.declared.Closing.the-variants as closing
 use Rattle.receiver.specs.declared.Receiver.{Receiver}
 use Rattle.receiver.specs.declared.Selection.{Selection}
-use Rattle.receiver.proofs.Effects.{length-record}
+use Rattle.receiver.proofs.Closings.{Clean, clean-closing, length-record}
 use Rattle.receiver.proofs.Marks.{header-columns-never}
 use Rattle.receiver.proofs.Sized.{Sized}
 use Rattle.receiver.proofs.Writes.{page-written}
 use Rattle.demands.specs.Demands.{A, B, ClosesClean, Fed, Follows, Holds, Received, RowHolds, SameSent, recordAfter}
-use Rattle.demands.specs.Runs.{Run, closingOf, entryAt, isRow, lastText, receivedAt, rowPart, sentAt}
-use Rattle.demands.proofs.Keeping.{Opening, RowIs, Stands, is-row, length-text, row-is}
-use Rattle.demands.proofs.Storing.{Full}
-use Rattle.demands.proofs.Took.{Ours}
-use Rattle.demands.proofs.Through.{SaysClean, Written, clean-from, closing-entered, entry-is, lentAt, line-at, outcomeAt, receiverAt, standing, took-at}
+use Rattle.demands.specs.Runs.{Run, closingOf, entryAt, lastText, receivedAt, rowPart, sentAt}
+use Rattle.demands.proofs.Keeping.{Opening, RowIs, is-row, row-is}
+use Rattle.demands.proofs.Through.{Stands, closing-entered, entry-is, lent-entered, lentAt, line-at, outcomeAt, packetAt, receiverAt, standing}
+use Rattle.demands.proofs.Told.{length-sent, whole-sent}
 
 -- ---- a row of the page, from its cells
 
 -- a row of some cells is a list of forty, from a column on
 module _ (row : ℕ) (high : row ≤ lastRow) (xs : List ℕ) (full : length xs ≡ cellCount) where
-  length-row : length (rowPart row xs) ≡ 40
+  length-row : length (rowPart row xs) ≡ columns
   unfolding rowPart
   length-row = length-part xs (row * columns) columns (omega arith)
 
-  row-cell : (c : ℕ) → c < 40 → getD (rowPart row xs) c 0 ≡ getD xs (row * 40 + c) 0
+  row-cell : (c : ℕ) → c < columns → getD (rowPart row xs) c 0 ≡ getD xs (row * columns + c) 0
   unfolding rowPart
   row-cell c h = getD-part xs (row * columns) columns c 0 h
 
-  row-is-list : (from : ℕ) (ys : List ℕ) → length ys ≡ 40 → ((c : ℕ) → from ≤ c → c < 40 → getD xs (row * 40 + c) 0 ≡ getD ys c 0)
+  row-is-list : (from : ℕ) (ys : List ℕ) → length ys ≡ columns → ((c : ℕ) → from ≤ c → c < columns → getD xs (row * columns + c) 0 ≡ getD ys c 0)
       → drop from (rowPart row xs) ≡ drop from ys
   row-is-list from ys whole each =
       ext-getD 0 (drop from (rowPart row xs)) (drop from ys)
       (length-drop from (rowPart row xs) ∙ (ap (λ (n : ℕ). n - from) (length-row ∙ sym whole) ∙ sym (length-drop from ys)))
       (λ k h.
-      let below : from + k < 40 = omega (arith, length-drop from (rowPart row xs), length-row) in
+      let below : from + k < columns = omega (arith, length-drop from (rowPart row xs), length-row) in
       getD-drop from (rowPart row xs) k 0
       ∙ (row-cell (from + k) below ∙ (each (from + k) (omega arith) below ∙ sym (getD-drop from ys k 0))))
 
-row-holds : (cells : Cells) → Full cells → (row : ℕ) → row ≤ lastRow → (text : Option (List ℕ)) → RowIs cells row text → RowHolds cells row text
+row-holds : (cells : Cells) → Sized cells → (row : ℕ) → row ≤ lastRow → (text : Option (List ℕ)) → RowIs cells row text → RowHolds cells row text
 row-holds cells full row high (some text) is = (
-  row-is-list row high (cells .characters) (full .characters) 0 text (is .0) (λ c low h. is .1 c h .0),
-  row-is-list row high (cells .marks) (full .marks) 0 (replicate columns fresh) (length-replicate columns fresh)
+  row-is-list row high (cells .characters) (full .0) 0 text (is .0) (λ c low h. is .1 c h .0),
+  row-is-list row high (cells .marks) (full .1) 0 (replicate columns fresh) (length-replicate columns fresh)
   (λ c low h. is .1 c h .1 ∙ sym (getD-replicate columns c fresh 0 h)),
 )
 row-holds cells full row high none is =
     every-from (λ (mark : ℕ). not (eqb mark fresh)) 0 (rowPart row (cells .marks))
     (λ k h.
-    let below : k < 40 = omega (arith, length-row row high (cells .marks) (full .marks)) in
+    let below : k < columns = omega (arith, length-row row high (cells .marks) (full .1)) in
     not-T (eqb (getD (rowPart row (cells .marks)) k 0) fresh)
-    (λ t. is k below (sym (row-cell row high (cells .marks) (full .marks) k below) ∙ eqb→eq (getD (rowPart row (cells .marks)) k 0) fresh t)))
+    (λ t. is k below (sym (row-cell row high (cells .marks) (full .1) k below) ∙ eqb→eq (getD (rowPart row (cells .marks)) k 0) fresh t)))
 
 -- row 0's columns 0 to 7
-header-columns : (receiver : Receiver) → T (lawful receiver) → Full (receiver .cells) → take headerColumn (rowPart 0 (receiver .cells .marks)) ≡ replicate headerColumn never
+header-columns : (receiver : Receiver) → T (lawful receiver) → Sized (receiver .cells) → take headerColumn (rowPart 0 (receiver .cells .marks)) ≡ replicate headerColumn never
 header-columns receiver is full =
     ext-getD 0 (take headerColumn (rowPart 0 (receiver .cells .marks))) (replicate headerColumn never)
-    (length-take headerColumn (rowPart 0 (receiver .cells .marks)) ∙ omega (arith, length-row 0 (omega arith) (receiver .cells .marks) (full .marks)))
+    (length-take headerColumn (rowPart 0 (receiver .cells .marks)) ∙ omega (arith, length-row 0 (omega arith) (receiver .cells .marks) (full .1)))
     (λ k h.
     let early : k < headerColumn = omega (arith, length-take headerColumn (rowPart 0 (receiver .cells .marks))) in
     getD-take headerColumn (rowPart 0 (receiver .cells .marks)) k 0 early
-    ∙ (row-cell 0 (omega arith) (receiver .cells .marks) (full .marks) k (omega arith)
+    ∙ (row-cell 0 (omega arith) (receiver .cells .marks) (full .1) k (omega arith)
     ∙ (ap (λ (n : ℕ). getD (receiver .cells .marks) n 0) (omega arith)
-    ∙ (header-columns-never receiver is k early (omega (arith, full .marks)) .0 ∙ sym (getD-replicate headerColumn k never 0 early)))))
+    ∙ (header-columns-never receiver is k early (omega (arith, full .1)) .0 ∙ sym (getD-replicate headerColumn k never 0 early)))))
 
 -- ---- the page that is held
 
-module _ (run : Run) (j : ℕ) (receiver : Receiver) (lent : List ℕ) (is : T (lawful receiver)) (stands : Stands run j receiver lent)
-  (sure : T (not (receiver .doubt))) (i : ℕ) (opening : Opening run j receiver i) (line : length (sentText (sentAt (run .lines) i)) ≡ 40) where
+module _ (run : Run) (j : ℕ) (receiver : Receiver) (lent : List ℕ) (stands : Stands run j receiver lent)
+  (sure : receiver .doubt ≡ false) (i : ℕ) (opening : Opening run j receiver i) (whole : length (sentText (sentAt (run .lines) i)) ≡ columns) where
   held-holds : Holds run i j (held receiver)
   unfolding held
   held-holds =
       record {
         magazine = ap (λ (x : Selection). x .magazine) (stands .selects) ∙ sym (row-is (run .selection .magazine) 0 (sentAt (run .lines) i) (opening .header) .0);
         header = opening .numbers;
-        clean = passed (not (receiver .doubt)) sure;
+        clean = ap not sure;
         header-text =
-            row-is-list 0 (omega arith) (receiver .cells .characters) (stands .full .characters) headerColumn (sentText (sentAt (run .lines) i)) line
+            row-is-list 0 (omega arith) (receiver .cells .characters) (stands .sized .0) headerColumn (sentText (sentAt (run .lines) i)) whole
             (λ c low h. opening .text c low h .0);
         header-fresh =
-            row-is-list 0 (omega arith) (receiver .cells .marks) (stands .full .marks) headerColumn (replicate columns fresh) (length-replicate columns fresh)
+            row-is-list 0 (omega arith) (receiver .cells .marks) (stands .sized .1) headerColumn (replicate columns fresh) (length-replicate columns fresh)
             (λ c low h. opening .text c low h .1 ∙ sym (getD-replicate columns c fresh 0 h));
-        header-never = header-columns receiver is (stands .full);
+        header-never = header-columns receiver (stands .is) (stands .sized);
         rows =
             λ row low high.
-            row-holds (receiver .cells) (stands .full) row high (lastText (run .selection .magazine) row (run .lines) i j) (opening .rows row low high);
+            row-holds (receiver .cells) (stands .sized) row high (lastText (run .selection .magazine) row (run .lines) i j) (opening .rows row low high);
       }
 
 -- ---- exactly one
@@ -124,6 +124,14 @@ one-header run i k j p q = by (decLt i k) (decLt k i)
     by (no a) (yes less) = absurd (q .none-between i less (p .before) (p .header))
     by (no a) (no b) = omega arith
 
+-- ---- the clean word
+
+clean-is : (word : Closing) → closingNumber word ≡ closingNumber closing.Clean → word ≡ closing.Clean
+unfolding closingNumber
+clean-is closing.None e = absurd (omega arith)
+clean-is closing.Clean e = refl
+clean-is closing.Doubt e = absurd (omega arith)
+
 -- ---- A and B, where what was written reads back
 
 -- the page's law: what is written of a page that none of 24, 22 and 23 refuses reads back to it
@@ -134,46 +142,41 @@ ReadsBack =
 
 module _ (back : ReadsBack) where
   module _ (run : Run) (fed : Fed run) (j : ℕ) (closes : ClosesClean run j) where
-    says : SaysClean (outcomeAt run fed j)
-    says = sym (closing-entered (outcomeAt run fed j)) ∙ (ap closingOf (sym (entry-is run fed j (closes .line))) ∙ closes .word)
-
-
-    inside : j ≤ length (run .lines)
-    inside = omega (arith, closes .line)
-
     abbrev receiver : Receiver
     receiver = receiverAt run fed j
 
-    closing-line : Ours receiver (sentAt (run .lines) j) × (sentRow (sentAt (run .lines) j) ≡ 0) × Written receiver (lentAt run fed j) (outcomeAt run fed j)
-    closing-line =
-        clean-from receiver (lentAt run fed j) (Unit {0}) (sentAt (run .lines) j) (linePacket (receivedAt (run .lines) j)) (outcomeAt run fed j)
-        (took-at run fed j (closes .line)) says
+    stands : Stands run j receiver (lentAt run fed j)
+    stands = standing run fed j (omega (arith, closes .line))
+
+    closed-clean : Clean receiver (packetAt run fed j) (lentAt run fed j) (outcomeAt run fed j)
+    closed-clean =
+        clean-closing receiver (packetAt run fed j) (lentAt run fed j)
+        (clean-is (outcomeAt run fed j .closing)
+        (sym (closing-entered (outcomeAt run fed j)) ∙ (ap closingOf (sym (entry-is run fed j (closes .line))) ∙ closes .word)))
 
     record-is : recordAfter run j ≡ recordOf (held receiver)
-    unfolding entered
     record-is =
-        ap (take recordLength) (ap (λ (e : Entered). e .lent) (entry-is run fed j (closes .line)) ∙ closing-line .2 .lent-is)
+        ap (take recordLength)
+        (ap (λ (e : Entered). e .lent) (entry-is run fed j (closes .line)) ∙ (lent-entered (outcomeAt run fed j) ∙ closed-clean .wrote))
         ∙ take-at (recordOf (held receiver)) (drop recordLength (lentAt run fed j)) recordLength (length-record (held receiver))
 
     reads-held : (readAnswer (recordOf (held receiver)) ≡ Read) × (pageRead (recordOf (held receiver)) ≡ held receiver)
     unfolding held
-    reads-held =
-        back (held receiver) (page-written receiver (standing run fed j inside .0) (closing-line .2 .is-open))
-        (standing run fed j inside .1 .full .characters, standing run fed j inside .1 .full .marks)
+    reads-held = back (held receiver) (page-written receiver (stands .is) (rw (closed-clean .was-open) tt)) (stands .sized)
 
     opened-by : (i : ℕ) × Opening run j receiver i
-    opened-by = standing run fed j inside .1 .page (closing-line .2 .is-open) (closing-line .2 .sure)
+    opened-by = stands .held (closed-clean .was-open, closed-clean .undoubted)
 
     received : Received run j (opened-by .0)
     received =
         let (i, opening) = opened-by in
+        let (ours, zeroth) = whole-sent (sentAt (run .lines) j) (receivedAt (run .lines) j) (line-at run fed j (closes .line) .0)
+          (line-at run fed j (closes .line) .1) (receiver .selection .magazine) 0 (closed-clean .ours) in
         record {
           follows =
               record {
                 header = opening .header;
-                next =
-                    is-row (run .selection .magazine) 0 (sentAt (run .lines) j)
-                    (closing-line .0 ∙ ap (λ (x : Selection). x .magazine) (standing run fed j inside .1 .selects)) (closing-line .1);
+                next = is-row (run .selection .magazine) 0 (sentAt (run .lines) j) (ours ∙ ap (λ (x : Selection). x .magazine) (stands .selects)) zeroth;
                 before = opening .before;
                 none-between = opening .none-between;
               };
@@ -182,8 +185,8 @@ module _ (back : ReadsBack) where
           reads = ap readAnswer record-is ∙ reads-held .0;
           holds =
               subst (Holds run i j) (sym (ap pageRead record-is ∙ reads-held .1))
-              (held-holds run j receiver (lentAt run fed j) (standing run fed j inside .0) (standing run fed j inside .1) (closing-line .2 .sure) i opening
-              (length-text (sentAt (run .lines) i) (line-at run fed i (omega (arith, opening .before, closes .line)) .0)));
+              (held-holds run j receiver (lentAt run fed j) stands (closed-clean .undoubted) i opening
+              (length-sent (sentAt (run .lines) i) (line-at run fed i (omega (arith, opening .before, closes .line)) .0)));
         }
 
   pub proof-a : A
