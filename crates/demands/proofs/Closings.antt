@@ -69,7 +69,7 @@ row-holds : (cells : Cells) → Sized cells → (row : ℕ) → row ≤ lastRow 
 row-holds cells full row high (some text) is = (
   row-is-list row high (cells .characters) (full .0) 0 text (is .0) (λ c low h. is .1 c h .0),
   row-is-list row high (cells .marks) (full .1) 0 (replicate columns fresh) (length-replicate columns fresh)
-  (λ c low h. is .1 c h .1 ∙ sym (getD-replicate columns c fresh 0 h)),
+      (λ c low h. is .1 c h .1 ∙ sym (getD-replicate columns c fresh 0 h)),
 )
 row-holds cells full row high none is =
     every-from (λ (mark : ℕ). not (eqb mark fresh)) 0 (rowPart row (cells .marks))
@@ -93,7 +93,7 @@ header-columns receiver is full =
 -- ---- the page that is held
 
 module _ (run : Run) (j : ℕ) (receiver : Receiver) (lent : List ℕ) (stands : Stands run j receiver lent)
-  (sure : receiver .doubt ≡ false) (i : ℕ) (opening : Opening run j receiver i) (whole : length (sentText (sentAt (run .lines) i)) ≡ columns) where
+    (sure : receiver .doubt ≡ false) (i : ℕ) (opening : Opening run j receiver i) (whole : length (sentText (sentAt (run .lines) i)) ≡ columns) where
   held-holds : Holds run i j (held receiver)
   unfolding held
   held-holds =
@@ -171,7 +171,7 @@ module _ (back : ReadsBack) where
     received =
         let (i, opening) = opened-by in
         let (ours, zeroth) = whole-sent (sentAt (run .lines) j) (receivedAt (run .lines) j) (line-at run fed j (closes .line) .0)
-          (line-at run fed j (closes .line) .1) (receiver .selection .magazine) 0 (closed-clean .ours) in
+        (line-at run fed j (closes .line) .1) (receiver .selection .magazine) 0 (closed-clean .ours) in
         record {
           follows =
               record {
@@ -214,10 +214,10 @@ module _ (back : ReadsBack) where
       let b = proof-a other fed′ l closes′ in
       let page : Page = pageRead (recordAfter run j) in
       let p : Holds run i j page =
-        subst (λ (n : ℕ). Holds run n j page) (one-header run i (a .0) j follows (a .1 .follows)) (a .1 .holds) in
+      subst (λ (n : ℕ). Holds run n j page) (one-header run i (a .0) j follows (a .1 .follows)) (a .1 .holds) in
       let q : Holds other k l page =
-        subst (λ (n : ℕ). Holds other n l page) (one-header other k (b .0) l follows′ (b .1 .follows))
-        (subst (Holds other (b .0) l) (ap pageRead (sym same)) (b .1 .holds)) in
+      subst (λ (n : ℕ). Holds other n l page) (one-header other k (b .0) l follows′ (b .1 .follows))
+      (subst (Holds other (b .0) l) (ap pageRead (sym same)) (b .1 .holds)) in
       record {
         magazine = sym (p .magazine) ∙ q .magazine;
         header = sym (p .header) ∙ q .header;

@@ -26,6 +26,7 @@ use Rattle.receiver.proofs.Effects.{Opens, kind-2-opens}
 use Rattle.receiver.proofs.Rows.{Stays, characterAt, header-first, markAt, text-first}
 use Rattle.receiver.proofs.Sized.{Sized}
 use Rattle.receiver.proofs.Steps.{Shown, opening-header, opening-none-fresh, opening-text, storing-header, storing-others, storing-text}
+use Rattle.demands.specs.Demands.{throughout}
 use Rattle.demands.specs.Runs.{Line, Run, entryAt, isRow, kindOf, lastText, lineAt, receivedAt, sentAt}
 use Rattle.demands.proofs.Told.{column-sent, goes-by, header-sent, length-sent, whole-sent}
 
@@ -105,7 +106,7 @@ one-further i k P below here n low h (no d) = below n low (omega arith)
 -- ---- one line more
 
 module _ (run : Run) (k : ℕ) (receiver : Receiver) (lent : List ℕ) (selects : receiver .selection ≡ run .selection) (sized : Sized (receiver .cells))
-  (held : Held run k receiver) (sent : T (sentByRules (sentAt (run .lines) k))) (damaged : T (damage 2 (sentAt (run .lines) k) (receivedAt (run .lines) k))) where
+    (held : Held run k receiver) (sent : T (sentByRules (sentAt (run .lines) k))) (damaged : T (damage throughout (sentAt (run .lines) k) (receivedAt (run .lines) k))) where
   abbrev m : ℕ
   m = run .selection .magazine
 
@@ -130,31 +131,32 @@ module _ (run : Run) (k : ℕ) (receiver : Receiver) (lent : List ℕ) (selects 
   -- a byte's character in its cell is the one that was sent
   shown-sent : (high : sentRow s ≤ lastRow) (cells : Cells) (row c : ℕ) → firstColumn (sentRow s) ≤ c → c < columns
       → Shown (textOf packet .bytes) cells row c → CellIs cells row c (getD (sentText s) c 0)
-  shown-sent high cells row c low below shown = (column-sent 2 s r sent damaged high c low below (characterAt cells row c) (shown .0), shown .1)
+  shown-sent high cells row c low below shown = (column-sent throughout s r sent damaged high c low below (characterAt cells row c) (shown .0), shown .1)
 
   -- ---- the line opens a page
 
   opened-here : kindOf (entryAt run k) ≡ 2 → Opens receiver packet lent outcome → Going (outcome .receiver) → After (outcome .receiver)
   opened-here kind opens going =
       let (magazine-is, zeroth) = whole-sent s r sent damaged (receiver .selection .magazine) 0 (opens .ours) in
-      let numbers : opens .found ≡ sentHeader s = header-sent s r sent damaged zeroth (opens .found) (opens .read) in
-      (k,
-      record {
-        header = is-row m 0 s (magazine-is ∙ same-magazine) zeroth;
-        matched = subst (λ (x : Selection). T (matches x (sentHeader s))) selects (subst (λ (x : Header). T (matches (receiver .selection) x)) numbers (opens .matched));
-        kind = kind;
-        before = omega arith;
-        none-between = λ n low h. absurd (omega arith);
-        numbers = opening-header receiver packet lent outcome opens ∙ numbers;
-        text =
-            λ c low h.
-            shown-sent (omega arith) (outcome .receiver .cells) 0 c (omega (arith, ap firstColumn zeroth, header-first)) h
-            (opening-text receiver packet lent outcome opens sized (going .1) c low h);
-        rows =
-            λ row low high.
-            subst (RowIs (outcome .receiver .cells) row) (sym (none-yet m row (run .lines) k (suc k) (omega arith)))
-            (λ c h. opening-none-fresh receiver packet lent outcome opens row c low h);
-      })
+      let numbers : opens .found ≡ sentHeader s = header-sent s r sent damaged zeroth (opens .found) (opens .read) in (
+        k,
+        record {
+          header = is-row m 0 s (magazine-is ∙ same-magazine) zeroth;
+          matched = subst (λ (x : Selection). T (matches x (sentHeader s))) selects (subst (λ (x : Header). T (matches (receiver .selection) x)) numbers (opens .matched));
+          kind = kind;
+          before = omega arith;
+          none-between = λ n low h. absurd (omega arith);
+          numbers = opening-header receiver packet lent outcome opens ∙ numbers;
+          text =
+              λ c low h.
+              shown-sent (omega arith) (outcome .receiver .cells) 0 c (omega (arith, ap firstColumn zeroth, header-first)) h
+              (opening-text receiver packet lent outcome opens sized (going .1) c low h);
+          rows =
+              λ row low high.
+              subst (RowIs (outcome .receiver .cells) row) (sym (none-yet m row (run .lines) k (suc k) (omega arith)))
+              (λ c h. opening-none-fresh receiver packet lent outcome opens row c low h);
+        },
+      )
 
   -- ---- the line goes by, or is stored
 
@@ -170,26 +172,27 @@ module _ (run : Run) (k : ℕ) (receiver : Receiver) (lent : List ℕ) (selects 
         → ((c : ℕ) → headerColumn ≤ c → c < columns → CellIs (later .cells) 0 c (getD (sentText (sentAt (run .lines) i)) c 0))
         → ((row : ℕ) → 1 ≤ row → row ≤ lastRow → RowIs (later .cells) row (lastText m row (run .lines) i (suc k)))
         → After later
-    further later same not-header text rows =
-        (i,
-        record {
-          header = was .header;
-          matched = was .matched;
-          kind = was .kind;
-          before = omega (arith, was .before);
-          none-between =
-              λ n low h.
-              one-further i k (λ (x : ℕ). T (isRow m 0 (sentAt (run .lines) x)) → ⊥) (was .none-between) not-header n low h (ℕ-discrete n k);
-          numbers = same ∙ was .numbers;
-          text = text;
-          rows = rows;
-        })
+    further later same not-header text rows = (
+      i,
+      record {
+        header = was .header;
+        matched = was .matched;
+        kind = was .kind;
+        before = omega (arith, was .before);
+        none-between =
+            λ n low h.
+            one-further i k (λ (x : ℕ). T (isRow m 0 (sentAt (run .lines) x)) → ⊥) (was .none-between) not-header n low h (ℕ-discrete n k);
+        numbers = same ∙ was .numbers;
+        text = text;
+        rows = rows;
+      },
+    )
 
     gone-by : outcome ≡ nothing receiver lent → After receiver
     gone-by e =
         let other : (row : ℕ) → row ≤ lastRow → T (isRow m row s) → ⊥
-          = λ row high t.
-            goes-by s r sent damaged receiver lent (was-going .0) e (row-is m row s t .0 ∙ sym same-magazine) (omega (arith, row-is m row s t .1)) in
+        = λ row high t.
+        goes-by s r sent damaged receiver lent (was-going .0) e (row-is m row s t .0 ∙ sym same-magazine) (omega (arith, row-is m row s t .1)) in
         further receiver refl (other 0 (omega arith)) (was .text)
         (λ row low high. subst (RowIs (receiver .cells) row) (sym (text-stays m row (run .lines) i k (other row high))) (was .rows row low high))
 
@@ -207,13 +210,14 @@ module _ (run : Run) (k : ℕ) (receiver : Receiver) (lent : List ℕ) (selects 
           → RowIs (outcome .receiver .cells) row (lastText m row (run .lines) i (suc k))
       stored-row row low high (yes e) =
           subst (RowIs (outcome .receiver .cells) row)
-          (sym (text-given m row (run .lines) i k (was .before) (is-row m row s (sent-row .0 ∙ same-magazine) (sent-row .1 ∙ sym e))))
-          (length-sent s sent,
-          (λ c h.
-          shown-sent (omega (arith, sent-row .1)) (outcome .receiver .cells) row c
-          (omega (arith, text-first (sentRow s) (omega (arith, sent-row .1)))) h
-          (subst (λ (n : ℕ). Shown (textOf packet .bytes) (outcome .receiver .cells) n c) (sym e)
-          (storing-text receiver packet lent outcome (whole .stores) sized (whole .none-missing) c h))))
+          (sym (text-given m row (run .lines) i k (was .before) (is-row m row s (sent-row .0 ∙ same-magazine) (sent-row .1 ∙ sym e)))) (
+            length-sent s sent,
+            (λ c h.
+                shown-sent (omega (arith, sent-row .1)) (outcome .receiver .cells) row c
+                (omega (arith, text-first (sentRow s) (omega (arith, sent-row .1)))) h
+                (subst (λ (n : ℕ). Shown (textOf packet .bytes) (outcome .receiver .cells) n c) (sym e)
+                (storing-text receiver packet lent outcome (whole .stores) sized (whole .none-missing) c h))),
+          )
       stored-row row low high (no differs) =
           subst (RowIs (outcome .receiver .cells) row)
           (sym (text-stays m row (run .lines) i k (λ t. differs (sym (row-is m row s t .1) ∙ sent-row .1))))

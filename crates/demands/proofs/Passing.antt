@@ -25,7 +25,7 @@ use Rattle.receiver.proofs.Closings.{closes-clean, header-closes}
 use Rattle.receiver.proofs.Effects.{Opens, Stores, seenBy, taken-opens, taken-passed, taken-text}
 use Rattle.receiver.proofs.Shows.{sees-header, sees-late, sees-other, sees-text}
 use Rattle.receiver.proofs.Steps.{opening-count, opening-doubt, opening-open, storing-doubt, storing-open}
-use Rattle.demands.specs.Demands.{C, Fed, Follows, Light, Passes}
+use Rattle.demands.specs.Demands.{C, Fed, Follows, Light, Passes, lightly}
 use Rattle.demands.specs.Runs.{Run, characterBytes, closingOf, countOf, entryAt, isRow, kindOf, lineAt, receivedAt, sentAt}
 use Rattle.demands.proofs.Keeping.{is-row, row-is}
 use Rattle.demands.proofs.Through.{closing-entered, count-entered, entry-is, kind-entered, lentAt, line-within, outcomeAt, receiver-after, receiverAt, standing}
@@ -33,7 +33,7 @@ use Rattle.demands.proofs.Told.{kept-found}
 
 -- ---- one line within one wrong bit
 
-module _ (receiver : Receiver) (s r lent : List ℕ) (sent : T (sentByRules s)) (damaged : T (damage 1 s r)) where
+module _ (receiver : Receiver) (s r lent : List ℕ) (sent : T (sentByRules s)) (damaged : T (damage lightly s r)) where
   abbrev packet : List ℕ
   packet = linePacket r
 
@@ -46,7 +46,7 @@ module _ (receiver : Receiver) (s r lent : List ℕ) (sent : T (sentByRules s)) 
   -- the address is the one that was sent
   address-is : (magazine row : ℕ) → sentMagazine s ≡ magazine → sentRow s ≡ row → seenBy receiver packet ≡ seen (receiver .selection) (receiver .«open») (Whole magazine row)
   address-is magazine row m e =
-      ap (seen (receiver .selection) (receiver .«open»)) (address-one 1 s r sent damaged (omega arith) ∙ (λ i. Whole (m i) (e i)))
+      ap (seen (receiver .selection) (receiver .«open»)) (address-one lightly s r sent damaged (omega arith) ∙ (λ i. Whole (m i) (e i)))
 
   -- ---- a line that is not our row 0 leaves no doubt
 
@@ -57,22 +57,23 @@ module _ (receiver : Receiver) (s r lent : List ℕ) (sent : T (sentByRules s)) 
   stored-going : ours → 1 ≤ sentRow s → sentRow s ≤ lastRow → characterBytes (sentRow s) r ≡ characterBytes (sentRow s) s → Going receiver → Going (outcome .receiver)
   stored-going our first last kept going =
       let stores : Stores receiver packet lent outcome =
-        record {
-          row = sentRow s;
-          ours =
-              record {
-                from = address-one 1 s r sent damaged (omega arith) ∙ (λ i. Whole (our i) (sentRow s));
-                with-open = rw (going .0) tt;
-                first = first;
-                last = last;
-              };
-          gives =
-              taken-text receiver packet lent
-              (address-is (receiver .selection .magazine) (sentRow s) our refl
-              ∙ sees-text (receiver .selection) (sentRow s) first (receiver .«open») (going .0) last);
-        } in
-      (storing-open receiver packet lent outcome stores ∙ going .0,
-      storing-doubt receiver packet lent outcome stores ∙ ap₂ _||_ (going .1) (kept-found 1 s r sent damaged last kept))
+      record {
+        row = sentRow s;
+        ours =
+            record {
+              from = address-one lightly s r sent damaged (omega arith) ∙ (λ i. Whole (our i) (sentRow s));
+              with-open = rw (going .0) tt;
+              first = first;
+              last = last;
+            };
+        gives =
+            taken-text receiver packet lent
+            (address-is (receiver .selection .magazine) (sentRow s) our refl
+            ∙ sees-text (receiver .selection) (sentRow s) first (receiver .«open») (going .0) last);
+      } in (
+        storing-open receiver packet lent outcome stores ∙ going .0,
+        storing-doubt receiver packet lent outcome stores ∙ ap₂ _||_ (going .1) (kept-found lightly s r sent damaged last kept),
+      )
 
   stays-going : (ours → sentRow s ≡ 0 → ⊥) → (ours → 1 ≤ sentRow s → sentRow s ≤ lastRow → characterBytes (sentRow s) r ≡ characterBytes (sentRow s) s)
       → Going receiver → Going (outcome .receiver)
@@ -99,24 +100,24 @@ module _ (receiver : Receiver) (s r lent : List ℕ) (sent : T (sentByRules s)) 
 
     -- closes what is open without doubt
     closes : Going receiver → outcome .closing ≡ closing.Clean
-    closes going = header-closes receiver packet lent header-is (received-packet 1 s r damaged) .0 ∙ closes-clean receiver (going .0) (going .1)
+    closes going = header-closes receiver packet lent header-is (received-packet lightly s r damaged) .0 ∙ closes-clean receiver (going .0) (going .1)
 
     -- and opens a page, where it matches
     opens : T (matches (receiver .selection) (sentHeader s)) → Opens receiver packet lent outcome
     opens matched =
         record {
           found = sentHeader s;
-          ours = address-one 1 s r sent damaged (omega arith) ∙ (λ i. Whole (our i) (zeroth i));
-          read = header-one 1 s r sent damaged zeroth (omega arith);
+          ours = address-one lightly s r sent damaged (omega arith) ∙ (λ i. Whole (our i) (zeroth i));
+          read = header-one lightly s r sent damaged zeroth (omega arith);
           matched = matched;
           gives =
-              taken-opens receiver packet lent (sentHeader s) header-is (header-one 1 s r sent damaged zeroth (omega arith))
+              taken-opens receiver packet lent (sentHeader s) header-is (header-one lightly s r sent damaged zeroth (omega arith))
               (passed (matches (receiver .selection) (sentHeader s)) matched);
         }
 
     none-lost : characterBytes (sentRow s) r ≡ characterBytes (sentRow s) s → oneMissing (rowFound 0 (textOf packet .bytes)) ≡ false
     none-lost kept =
-        subst (λ (n : ℕ). oneMissing (rowFound n (textOf packet .bytes)) ≡ false) zeroth (kept-found 1 s r sent damaged (omega arith) kept)
+        subst (λ (n : ℕ). oneMissing (rowFound n (textOf packet .bytes)) ≡ false) zeroth (kept-found lightly s r sent damaged (omega arith) kept)
 
 opens-kind : (receiver : Receiver) (packet lent : List ℕ) (o : Outcome) → Opens receiver packet lent o → o .kind ≡ 2
 unfolding headerTaken
@@ -125,7 +126,7 @@ opens-kind receiver packet lent o opens = ap (λ (x : Outcome). x .kind) (opens 
 -- ---- from a header to the next one
 
 module _ (run : Run) (fed : Fed run) (i j : ℕ) (line : j < length (run .lines)) (matched : T (matches (run .selection) (sentHeader (sentAt (run .lines) i))))
-  (follows : Follows run i j) (light : Light run i j) where
+    (follows : Follows run i j) (light : Light run i j) where
   abbrev m : ℕ
   m = run .selection .magazine
 
@@ -138,8 +139,8 @@ module _ (run : Run) (fed : Fed run) (i j : ℕ) (line : j < length (run .lines)
   abbrev before : ℕ → Receiver
   before k = receiverAt run fed k
 
-  lines-one : (k : ℕ) → i ≤ k → k ≤ j → T (sentByRules (s k)) × T (damage 1 (s k) (r k))
-  lines-one k low h = line-within 1 (lineAt (run .lines) k) (light .single k low h)
+  lines-one : (k : ℕ) → i ≤ k → k ≤ j → T (sentByRules (s k)) × T (damage lightly (s k) (r k))
+  lines-one k low h = line-within lightly (lineAt (run .lines) k) (light .single k low h)
 
   selects : (k : ℕ) → k ≤ j → before k .selection ≡ run .selection
   selects k h = standing run fed k (omega arith) .selects
@@ -176,7 +177,7 @@ module _ (run : Run) (fed : Fed run) (i j : ℕ) (line : j < length (run .lines)
   going-further : (k : ℕ) → i < k → k < j → Going (before k) → Going (before (suc k))
   going-further k low high going =
       let late : k ≤ j = omega arith in
-      let lines : T (sentByRules (s k)) × T (damage 1 (s k) (r k)) = lines-one k (omega arith) late in
+      let lines : T (sentByRules (s k)) × T (damage lightly (s k) (r k)) = lines-one k (omega arith) late in
       subst Going (sym (receiver-after run fed k (omega arith)))
       (stays-going (before k) (s k) (r k) (lentAt run fed k) (lines .0) (lines .1)
       (λ our zeroth. follows .none-between k low high (is-row m 0 (s k) (our ∙ same-magazine k late) zeroth))

@@ -19,7 +19,7 @@ use Rattle.receiver.proofs.Carried.{taken-selection}
 use Rattle.receiver.proofs.Closings.{length-stays}
 use Rattle.receiver.proofs.Lawful.{new-lawful, taken-lawful}
 use Rattle.receiver.proofs.Sized.{Sized, new-sized, taken-sized}
-use Rattle.demands.specs.Demands.{Fed}
+use Rattle.demands.specs.Demands.{Fed, throughout}
 use Rattle.demands.specs.Runs.{Line, Run, closingOf, countOf, entering, entryAt, kindOf, lineAt, lineWithin, receivedAt, sentAt, standingBefore, within}
 use Rattle.demands.proofs.Keeping.{Held, held-after}
 use Rattle.demands.proofs.Told.{line-taken}
@@ -72,9 +72,9 @@ new-stands run fed =
     }
 
 module _ (run : Run) (fed : Fed run) where
-  pub line-at : (k : ℕ) → k < length (run .lines) → T (sentByRules (sentAt (run .lines) k)) × T (damage 2 (sentAt (run .lines) k) (receivedAt (run .lines) k))
+  pub line-at : (k : ℕ) → k < length (run .lines) → T (sentByRules (sentAt (run .lines) k)) × T (damage throughout (sentAt (run .lines) k) (receivedAt (run .lines) k))
   unfolding within lineAt
-  line-at k h = line-within 2 (lineAt (run .lines) k) (every-at (lineWithin 2) (run .lines) (fed .damaged) k _ h)
+  line-at k h = line-within throughout (lineAt (run .lines) k) (every-at (lineWithin throughout) (run .lines) (fed .damaged) k _ h)
 
   abbrev pub receiverAt : ℕ → Receiver
   receiverAt k = standingBefore run k .receiver
@@ -95,7 +95,7 @@ module _ (run : Run) (fed : Fed run) where
     entry-from : entryAt run k ≡ entered (outcomeAt k)
     unfolding entryAt entering
     entry-from =
-        line-taken 2 (sentAt (run .lines) k) (receivedAt (run .lines) k) (line-at k h .0) (line-at k h .1) (receiverAt k) (stands .is) (lentAt k) (stands .room)
+        line-taken throughout (sentAt (run .lines) k) (receivedAt (run .lines) k) (line-at k h .0) (line-at k h .1) (receiverAt k) (stands .is) (lentAt k) (stands .room)
 
     next-receiver : receiverAt (suc k) ≡ outcomeAt k .receiver
     unfolding standingBefore entryAt entered

@@ -40,6 +40,7 @@ use Rattle.receiver.proofs.Entering.{line-is-taken}
 use Rattle.receiver.proofs.Rows.{found-at, length-found}
 use Rattle.receiver.proofs.Shows.{sees-first, sees-header, sees-second, sees-text, sees-unread}
 use Rattle.receiver.proofs.Undoubted.{each-found, length-text}
+use Rattle.demands.specs.Demands.{throughout}
 use Rattle.demands.specs.Runs.{characterBytes}
 
 -- a line within the damage is taken
@@ -83,7 +84,7 @@ unsure-kind receiver could lent =
 
 -- with a page open, none of our rows 0 to 23 goes by without an effect
 module _ (receiver : Receiver) (s packet lent : List ℕ) (length-is : length packet ≡ 42) (is-open : receiver .«open» ≡ true)
-  (ours : sentMagazine s ≡ receiver .selection .magazine) (high : sentRow s ≤ lastRow) (by : taken receiver packet lent ≡ nothing receiver lent) where
+    (ours : sentMagazine s ≡ receiver .selection .magazine) (high : sentRow s ≤ lastRow) (by : taken receiver packet lent ≡ nothing receiver lent) where
   by-kind : (kind : ℕ) → 1 ≤ kind → taken receiver packet lent .kind ≡ kind → ⊥
   unfolding nothing
   by-kind kind h e = omega (arith, ap (λ (o : Outcome). o .kind) by)
@@ -124,12 +125,12 @@ module _ (receiver : Receiver) (s packet lent : List ℕ) (length-is : length pa
   not-by (unread e) =
       unsure-seen true (ap (seen (receiver .selection) (receiver .«open»)) e ∙ sees-unread (receiver .selection) (receiver .«open»))
 
-module _ (s r : List ℕ) (sent : T (sentByRules s)) (damaged : T (damage 2 s r)) where
+module _ (s r : List ℕ) (sent : T (sentByRules s)) (damaged : T (damage throughout s r)) where
   told : Told s (addressOf (linePacket r))
   told =
-      rw (address-shown 2 s r sent damaged)
-      (shown-told s (message (packetByte (linePacket r) 1)) (message (packetByte (linePacket r) 2)) (first-two 2 s r sent damaged (omega arith))
-      (second-two 2 s r sent damaged (omega arith)))
+      rw (address-shown throughout s r sent damaged)
+      (shown-told s (message (packetByte (linePacket r) 1)) (message (packetByte (linePacket r) 2)) (first-two throughout s r sent damaged (omega arith))
+      (second-two throughout s r sent damaged (omega arith)))
 
   -- an address that is read whole is the one that was sent
   pub whole-sent : (magazine row : ℕ) → addressOf (linePacket r) ≡ Whole magazine row → (sentMagazine s ≡ magazine) × (sentRow s ≡ row)
@@ -138,13 +139,13 @@ module _ (s r : List ℕ) (sent : T (sentByRules s)) (damaged : T (damage 2 s r)
   -- and a line that an open page lets by is none of our rows 0 to 23
   pub goes-by : (receiver : Receiver) (lent : List ℕ) → receiver .«open» ≡ true → taken receiver (linePacket r) lent ≡ nothing receiver lent
       → sentMagazine s ≡ receiver .selection .magazine → sentRow s ≤ lastRow → ⊥
-  goes-by receiver lent is-open by ours high = not-by receiver s (linePacket r) lent (received-packet 2 s r damaged) is-open ours high by told
+  goes-by receiver lent is-open by ours high = not-by receiver s (linePacket r) lent (received-packet throughout s r damaged) is-open ours high by told
 
   -- ---- the header
 
   pub header-sent : sentRow s ≡ 0 → (found : Header) → headerOf (linePacket r) ≡ Good found → found ≡ sentHeader s
   header-sent zeroth found e =
-      ⊎-elim (λ p. cc) (λ p. absurd (let z : _≡_ {A = ℕ} 0 1 = cc in omega arith)) (header-two 2 s r sent damaged zeroth (omega arith))
+      ⊎-elim (λ p. cc) (λ p. absurd (let z : _≡_ {A = ℕ} 0 1 = cc in omega arith)) (header-two throughout s r sent damaged zeroth (omega arith))
 
 -- ---- the characters
 
@@ -192,8 +193,8 @@ module _ (d : ℕ) (s r : List ℕ) (sent : T (sentByRules s)) (damaged : T (dam
       let below : first + k < columns = omega (arith, length-found (sentRow s) read (length-text (linePacket r))) in
       let low : first ≤ first + k = omega arith in
       let same : getD (packetBytes (linePacket r) 3 columns) (first + k) 0 ≡ getD (packetBytes (linePacket s) 3 columns) (first + k) 0 =
-        sym (getD-drop first (packetBytes (linePacket r) 3 columns) k 0)
-        ∙ (ap (λ (l : List ℕ). getD l k 0) e ∙ getD-drop first (packetBytes (linePacket s) 3 columns) k 0) in
+      sym (getD-drop first (packetBytes (linePacket r) 3 columns) k 0)
+      ∙ (ap (λ (l : List ℕ). getD l k 0) e ∙ getD-drop first (packetBytes (linePacket s) 3 columns) k 0) in
       let here = found-at (sentRow s) read (length-text (linePacket r)) (first + k) low below in
       record {
         code = getD (sentText s) (first + k) 0;

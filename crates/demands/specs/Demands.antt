@@ -29,6 +29,10 @@ use Rattle.demands.specs.Runs.{Line, Run, characterBytes, closingOf, cou
 abbrev pub throughout : ℕ
 throughout = 2
 
+-- and from a header to the next, where a page is to close clean
+abbrev pub lightly : ℕ
+lightly = 1
+
 -- a lawful selection, a lent record that is long enough, and any lines within the damage
 pub record Fed (run : Run) : Type 0 where
   pub range : T (inRange (run .selection))
@@ -105,7 +109,7 @@ TextKept line = characterBytes (sentRow (line .sent)) (line .received) ≡ chara
 
 -- from line i to line j at most one wrong bit in each Hamming byte, and no character byte of the header and of the magazine's rows is wrong
 pub record Light (run : Run) (i j : ℕ) : Type 0 where
-  pub single : (k : ℕ) → i ≤ k → k ≤ j → T (lineWithin 1 (lineAt (run .lines) k))
+  pub single : (k : ℕ) → i ≤ k → k ≤ j → T (lineWithin lightly (lineAt (run .lines) k))
   pub header-kept : TextKept (lineAt (run .lines) i)
   pub rows-kept : (row k : ℕ) → 1 ≤ row → row ≤ lastRow → i < k → k < j → T (isRow (run .selection .magazine) row (sentAt (run .lines) k))
       → TextKept (lineAt (run .lines) k)
