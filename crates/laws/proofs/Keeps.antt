@@ -16,6 +16,10 @@ pub both : (a b : Bool) → T a → T b → T (a && b)
 both true b s t = t
 both false b s t = absurd s
 
+pub failed : (b : Bool) → T (not b) → b ≡ false
+failed true t = absurd t
+failed false t = refl
+
 -- what holds of either of two values, each where it is chosen, holds of the chosen one
 pub chosen : {A : Type 0} (P : A → Type 0) (b : Bool) (x y : A) → (T b → P x) → (T (not b) → P y) → P (cond b x y)
 chosen P true x y f g = f tt
@@ -118,3 +122,7 @@ chosen-first false x y h t = absurd h
 pub first-chosen : (b x y : Bool) → T b → T x → T (cond b x y)
 first-chosen true x y h t = t
 first-chosen false x y h t = absurd h
+
+pub chosen-second : (b x y : Bool) → T (not b) → T (cond b x y) → T y
+chosen-second true x y h t = absurd h
+chosen-second false x y h t = t

@@ -9,27 +9,20 @@ use native.Mathlib.Omega.{arith}
 use borrow.Author.Tests.{eq-eqb}
 use lib.ListN.{drop, length, length-append, length-drop}
 use lib.Seq.{drop-at}
-use Rattle.laws.specs.Fields.{fieldsBits}
-use Rattle.laws.proofs.Fields.{length-bytes}
 use Rattle.laws.proofs.Keeps.{chosen}
 use Rattle.packet.specs.Headers.{allGood, headerMessages, headerOf, headerOr}
 use Rattle.packet.specs.Lines.{packetLength}
 use Rattle.packet.specs.Texts.{textOf}
 use Rattle.packet.specs.declared.HeaderRead.{HeaderRead}
 use Rattle.packet.specs.declared.HeaderRead.the-variants as header
-use Rattle.page.specs.Records.{recordLength, recordOf, recordWidths, valuesOf}
-use Rattle.page.specs.declared.Page.{Page}
+use Rattle.page.specs.Records.{recordLength, recordOf}
 use Rattle.receiver.specs.Lines.{Outcome, closingWord, doubted, headerSeen, headerTaken, held, justClosed, lentAfter, nothing, ourHeader, taken, textTaken}
 use Rattle.receiver.specs.Selections.{matches}
 use Rattle.receiver.specs.declared.Closing.{Closing}
 use Rattle.receiver.specs.declared.Closing.the-variants as closing
 use Rattle.receiver.specs.declared.Receiver.{Receiver}
+pub use Rattle.receiver.proofs.Effects.{length-record}
 use Rattle.receiver.proofs.Effects.{OurHeader, by-effects, seenBy, taken-header}
-
--- a record has 1,085 bytes
-pub length-record : (page : Page) → length (recordOf page) ≡ recordLength
-unfolding recordOf
-length-record page = length-bytes recordLength (fieldsBits recordWidths (valuesOf page))
 
 -- ---- closing words
 
@@ -108,41 +101,41 @@ module _ (receiver : Receiver) (packet lent : List ℕ) where
   unfolding nothing textTaken headerTaken justClosed
   only-closing-writes =
       by-effects receiver packet lent (λ (o : Outcome). o .closing ≡ closing.None → o .lent ≡ lent)
-      (λ e. refl)
+      (λ p e. refl)
       (λ row t e. refl)
       (λ a found r m e. none-writes-nothing receiver lent e)
       (λ a found r m e. none-writes-nothing receiver lent e)
       (λ a r e. none-writes-nothing receiver lent e)
       (λ a r e. refl)
-      (λ o e. none-writes-nothing (doubted receiver) lent e)
-      (λ could o e. refl)
+      (λ u o e. none-writes-nothing (doubted receiver) lent e)
+      (λ could u o e. refl)
 
   -- and none touches what lies past 1,085 bytes
   pub past-stays : drop recordLength (taken receiver packet lent .lent) ≡ drop recordLength lent
   unfolding nothing textTaken headerTaken justClosed
   past-stays =
       by-effects receiver packet lent (λ (o : Outcome). drop recordLength (o .lent) ≡ drop recordLength lent)
-      refl
+      (λ p. refl)
       (λ row t. refl)
       (λ a found r m. lent-past receiver lent)
       (λ a found r m. lent-past receiver lent)
       (λ a r. lent-past receiver lent)
       (λ a r. refl)
-      (λ o. lent-past (doubted receiver) lent)
-      (λ could o. refl)
+      (λ u o. lent-past (doubted receiver) lent)
+      (λ could u o. refl)
 
   pub length-stays : recordLength ≤ length lent → length (taken receiver packet lent .lent) ≡ length lent
   unfolding nothing textTaken headerTaken justClosed
   length-stays h =
       by-effects receiver packet lent (λ (o : Outcome). length (o .lent) ≡ length lent)
-      refl
+      (λ p. refl)
       (λ row t. refl)
       (λ a found r m. lent-length receiver lent h)
       (λ a found r m. lent-length receiver lent h)
       (λ a r. lent-length receiver lent h)
       (λ a r. refl)
-      (λ o. lent-length (doubted receiver) lent h)
-      (λ could o. refl)
+      (λ u o. lent-length (doubted receiver) lent h)
+      (λ could u o. refl)
 
   none-not-clean : _≡_ {A = Closing} closing.None closing.Clean → ⊥
   none-not-clean e = let z : _≡_ {A = ℕ} 0 1 = cc in omega arith
@@ -156,14 +149,14 @@ module _ (receiver : Receiver) (packet lent : List ℕ) where
   unfolding nothing textTaken headerTaken justClosed
   clean-closing =
       by-effects receiver packet lent (λ (o : Outcome). o .closing ≡ closing.Clean → Clean receiver packet lent o)
-      (λ e. absurd (none-not-clean e))
+      (λ p e. absurd (none-not-clean e))
       (λ row t e. absurd (none-not-clean e))
       (λ a found r m e. closed-clean a refl e)
       (λ a found r m e. closed-clean a refl e)
       (λ a r e. closed-clean a refl e)
       (λ a r e. absurd (none-not-clean e))
-      (λ o e. absurd (doubt-not-clean receiver e))
-      (λ could o e. absurd (none-not-clean e))
+      (λ u o e. absurd (doubt-not-clean receiver e))
+      (λ could u o e. absurd (none-not-clean e))
 
 -- ---- every row 0 of ours closes
 

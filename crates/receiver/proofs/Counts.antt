@@ -60,11 +60,11 @@ module _ (receiver : Receiver) (packet lent : List ℕ) where
   unfolding nothing textTaken headerTaken justClosed
   none-stored-none-counted =
       by-effects receiver packet lent (λ (o : Outcome). (o .kind ≡ 1 → ⊥) → (o .kind ≡ 2 → ⊥) → o .count ≡ 0)
-      (λ n m. refl)
+      (λ p n m. refl)
       (λ row t n m. absurd (n refl))
       (λ a found r t n m. absurd (m refl))
       (λ a found r t n m. refl)
       (λ a r n m. refl)
       (λ a r n m. refl)
-      (λ o n m. refl)
-      (λ could o n m. refl)
+      (λ u o n m. refl)
+      (λ could u o n m. refl)

@@ -1,12 +1,16 @@
--- What a line's kind shows: kind 0 changes nothing, kinds 1 and 2 are a stored row and an opening. And from what was seen of a line to its outcome.
+-- What a line's kind shows, each as the table has it: what led there, and the effect. And from what was seen of a line to its outcome.
 use mathlib.Core.Path.{_≡_, refl, _∙_, ap}
 use mathlib.Core.Bool.{Bool, true, false, cond, not, _&&_}
 use mathlib.Core.List.{List}
+use mathlib.Core.Logic.{_⊎_, inl, inr}
 use Prim.Native.Nat.{ℕ}
 use native.Mathlib.Omega.{arith}
 use lib.Dec.{T}
-use Rattle.laws.proofs.Bools.{both-left}
-use Rattle.laws.proofs.Keeps.{chosen}
+use lib.ListN.{length}
+use Rattle.laws.specs.Fields.{fieldsBits}
+use Rattle.laws.proofs.Fields.{length-bytes}
+use Rattle.laws.proofs.Bools.{both-left, both-right}
+use Rattle.laws.proofs.Keeps.{both, chosen}
 use Rattle.packet.specs.Addresses.{addressOf}
 use Rattle.packet.specs.Headers.{headerOf}
 use Rattle.packet.specs.Texts.{textOf}
@@ -14,15 +18,22 @@ use Rattle.packet.specs.declared.Address.the-variants as address
 use Rattle.packet.specs.declared.Header.{Header}
 use Rattle.packet.specs.declared.HeaderRead.{HeaderRead}
 use Rattle.packet.specs.declared.HeaderRead.the-variants as header
+use Rattle.page.specs.Records.{recordLength, recordOf, recordWidths, valuesOf}
+use Rattle.page.specs.declared.Page.{Page}
 use Rattle.receiver.specs.Lines.{Outcome, Seen, doubted, effect, headerSeen, headerTaken, justClosed, nothing, ourHeader, passed, seen, taken, text, textTaken, unsure, unsureTaken}
 use Rattle.receiver.specs.Selections.{matches}
 use Rattle.receiver.specs.declared.Closing.the-variants as closing
 use Rattle.receiver.specs.declared.Receiver.{Receiver}
-use Rattle.receiver.proofs.Shows.{OurText, seen-header, seen-text}
+use Rattle.receiver.proofs.Shows.{MayBeOurs, OurText, Passes, seen-header, seen-passed, seen-text, seen-unsure}
 
 -- what the address of a packet shows to a receiver
 abbrev pub seenBy : Receiver → List ℕ → Seen
 seenBy receiver packet = seen (receiver .selection) (receiver .«open») (addressOf packet)
+
+-- a record has 1,085 bytes
+pub length-record : (page : Page) → length (recordOf page) ≡ recordLength
+unfolding recordOf
+length-record page = length-bytes recordLength (fieldsBits recordWidths (valuesOf page))
 
 -- the outcome of kind 4 that does not close
 abbrev pub doubtOnly : Receiver → List ℕ → Outcome
@@ -43,7 +54,7 @@ OurHeader receiver packet = addressOf packet ≡ address.Whole (receiver .select
 
 -- what holds of each effect of the table, with what led there, holds of a line's outcome
 module _ (receiver : Receiver) (packet lent : List ℕ) (P : Outcome → Type 0)
-    (pass : P (nothing receiver lent))
+    (pass : Passes (receiver .selection) (receiver .«open») (addressOf packet) → P (nothing receiver lent))
     (store : (row : ℕ) → OurText (receiver .selection) (receiver .«open») (addressOf packet) row → P (textTaken receiver row (textOf packet .bytes) lent))
     (opens : OurHeader receiver packet → (found : Header) → headerOf packet ≡ header.Good found → T (matches (receiver .selection) found)
     → P (headerTaken receiver found (textOf packet .bytes) lent))
@@ -51,8 +62,8 @@ module _ (receiver : Receiver) (packet lent : List ℕ) (P : Outcome → Type 0)
     → P (justClosed receiver 3 lent))
     (spoiled : OurHeader receiver packet → headerOf packet ≡ header.Spoiled → P (justClosed receiver 5 lent))
     (short : OurHeader receiver packet → headerOf packet ≡ header.WrongLength → P (nothing receiver lent))
-    (closes : T (receiver .«open») → P (justClosed (doubted receiver) 4 lent))
-    (leaves : (could : Bool) → T (not (receiver .«open» && could)) → P (doubtOnly receiver lent))
+    (closes : MayBeOurs (receiver .selection) (addressOf packet) true → T (receiver .«open») → P (justClosed (doubted receiver) 4 lent))
+    (leaves : (could : Bool) → MayBeOurs (receiver .selection) (addressOf packet) could → T (not (receiver .«open» && could)) → P (doubtOnly receiver lent))
   where
     by-header : OurHeader receiver packet → (read : HeaderRead) → headerOf packet ≡ read → P (headerSeen receiver read (textOf packet .bytes) lent)
     unfolding headerSeen
@@ -62,18 +73,21 @@ module _ (receiver : Receiver) (packet lent : List ℕ) (P : Outcome → Type 0)
     by-header a header.Spoiled e = spoiled a e
     by-header a header.WrongLength e = short a e
 
-    by-unsure : (could : Bool) → P (unsureTaken receiver could lent)
+    by-unsure : (could : Bool) → MayBeOurs (receiver .selection) (addressOf packet) could → P (unsureTaken receiver could lent)
     unfolding unsureTaken
-    by-unsure could =
-        chosen P (receiver .«open» && could) (justClosed (doubted receiver) 4 lent) (doubtOnly receiver lent)
-        (λ t. closes (both-left (receiver .«open») could t)) (leaves could)
+    by-unsure true u =
+        chosen P (receiver .«open» && true) (justClosed (doubted receiver) 4 lent) (doubtOnly receiver lent)
+        (λ t. closes u (both-left (receiver .«open») true t)) (leaves true u)
+    by-unsure false u =
+        chosen P (receiver .«open» && false) (justClosed (doubted receiver) 4 lent) (doubtOnly receiver lent)
+        (λ t. absurd (both-right (receiver .«open») false t)) (leaves false u)
 
     by-effect : (s : Seen) → seenBy receiver packet ≡ s → P (effect receiver s packet lent)
     unfolding effect
-    by-effect passed e = pass
+    by-effect passed e = pass (seen-passed (receiver .selection) (receiver .«open») (addressOf packet) e)
     by-effect (text row) e = store row (seen-text (receiver .selection) (receiver .«open») (addressOf packet) row e)
     by-effect ourHeader e = by-header (seen-header (receiver .selection) (receiver .«open») (addressOf packet) e) (headerOf packet) refl
-    by-effect (unsure could) e = by-unsure could
+    by-effect (unsure could) e = by-unsure could (seen-unsure (receiver .selection) (receiver .«open») (addressOf packet) could e)
 
     pub by-effects : P (taken receiver packet lent)
     unfolding taken
@@ -87,14 +101,14 @@ module _ (receiver : Receiver) (packet lent : List ℕ) where
   unfolding nothing textTaken headerTaken justClosed
   kind-0-nothing =
       by-effects receiver packet lent (λ (o : Outcome). o .kind ≡ 0 → o ≡ nothing receiver lent)
-      (λ e. refl)
+      (λ p e. refl)
       (λ row t e. absurd (omega arith))
       (λ a found r m e. absurd (omega arith))
       (λ a found r m e. absurd (omega arith))
       (λ a r e. absurd (omega arith))
       (λ a r e. refl)
-      (λ o e. absurd (omega arith))
-      (λ could o e. absurd (omega arith))
+      (λ u o e. absurd (omega arith))
+      (λ could u o e. absurd (omega arith))
 
   -- the receiver handed in, nothing counted, nothing closed, nothing written
   pub kind-0-parts : taken receiver packet lent .kind ≡ 0
@@ -128,27 +142,88 @@ module _ (receiver : Receiver) (packet lent : List ℕ) where
   unfolding nothing headerTaken justClosed
   kind-1-stores =
       by-effects receiver packet lent (λ (o : Outcome). o .kind ≡ 1 → Stores receiver packet lent o)
-      (λ e. absurd (omega arith))
+      (λ p e. absurd (omega arith))
       (λ row t e. record { row = row; ours = t; gives = refl })
       (λ a found r m e. absurd (omega arith))
       (λ a found r m e. absurd (omega arith))
       (λ a r e. absurd (omega arith))
       (λ a r e. absurd (omega arith))
-      (λ o e. absurd (omega arith))
-      (λ could o e. absurd (omega arith))
+      (λ u o e. absurd (omega arith))
+      (λ could u o e. absurd (omega arith))
 
   pub kind-2-opens : taken receiver packet lent .kind ≡ 2 → Opens receiver packet lent (taken receiver packet lent)
   unfolding nothing textTaken justClosed
   kind-2-opens =
       by-effects receiver packet lent (λ (o : Outcome). o .kind ≡ 2 → Opens receiver packet lent o)
-      (λ e. absurd (omega arith))
+      (λ p e. absurd (omega arith))
       (λ row t e. absurd (omega arith))
       (λ a found r m e. record { found = found; ours = a; read = r; matched = m; gives = refl })
       (λ a found r m e. absurd (omega arith))
       (λ a r e. absurd (omega arith))
       (λ a r e. absurd (omega arith))
-      (λ o e. absurd (omega arith))
-      (λ could o e. absurd (omega arith))
+      (λ u o e. absurd (omega arith))
+      (λ could u o e. absurd (omega arith))
+
+-- kind 3: another page's header
+pub record Others (receiver : Receiver) (packet lent : List ℕ) (outcome : Outcome) : Type 0 where
+  pub found : Header
+  pub ours : OurHeader receiver packet
+  pub read : headerOf packet ≡ header.Good found
+  pub unmatched : T (not (matches (receiver .selection) found))
+  pub gives : outcome ≡ justClosed receiver 3 lent
+
+-- kind 4: it closes just where a page is open and the line could have been row 0
+pub record Unsure (receiver : Receiver) (packet lent : List ℕ) (outcome : Outcome) : Type 0 where
+  pub could : Bool
+  pub may : MayBeOurs (receiver .selection) (addressOf packet) could
+  pub gives : (T (receiver .«open» && could) × (outcome ≡ justClosed (doubted receiver) 4 lent))
+      ⊎ (T (not (receiver .«open» && could)) × (outcome ≡ doubtOnly receiver lent))
+
+-- kind 5: our row 0, spoiled
+pub record Spoils (receiver : Receiver) (packet lent : List ℕ) (outcome : Outcome) : Type 0 where
+  pub ours : OurHeader receiver packet
+  pub read : headerOf packet ≡ header.Spoiled
+  pub gives : outcome ≡ justClosed receiver 5 lent
+
+module _ (receiver : Receiver) (packet lent : List ℕ) where
+  pub kind-3-closes : taken receiver packet lent .kind ≡ 3 → Others receiver packet lent (taken receiver packet lent)
+  unfolding nothing textTaken headerTaken justClosed
+  kind-3-closes =
+      by-effects receiver packet lent (λ (o : Outcome). o .kind ≡ 3 → Others receiver packet lent o)
+      (λ p e. absurd (omega arith))
+      (λ row t e. absurd (omega arith))
+      (λ a found r m e. absurd (omega arith))
+      (λ a found r m e. record { found = found; ours = a; read = r; unmatched = m; gives = refl })
+      (λ a r e. absurd (omega arith))
+      (λ a r e. absurd (omega arith))
+      (λ u o e. absurd (omega arith))
+      (λ could u o e. absurd (omega arith))
+
+  pub kind-4-unsure : taken receiver packet lent .kind ≡ 4 → Unsure receiver packet lent (taken receiver packet lent)
+  unfolding nothing textTaken headerTaken justClosed
+  kind-4-unsure =
+      by-effects receiver packet lent (λ (o : Outcome). o .kind ≡ 4 → Unsure receiver packet lent o)
+      (λ p e. absurd (omega arith))
+      (λ row t e. absurd (omega arith))
+      (λ a found r m e. absurd (omega arith))
+      (λ a found r m e. absurd (omega arith))
+      (λ a r e. absurd (omega arith))
+      (λ a r e. absurd (omega arith))
+      (λ u o e. record { could = true; may = u; gives = inl (both (receiver .«open») true o tt, refl) })
+      (λ could u o e. record { could = could; may = u; gives = inr (o, refl) })
+
+  pub kind-5-closes : taken receiver packet lent .kind ≡ 5 → Spoils receiver packet lent (taken receiver packet lent)
+  unfolding nothing textTaken headerTaken justClosed
+  kind-5-closes =
+      by-effects receiver packet lent (λ (o : Outcome). o .kind ≡ 5 → Spoils receiver packet lent o)
+      (λ p e. absurd (omega arith))
+      (λ row t e. absurd (omega arith))
+      (λ a found r m e. absurd (omega arith))
+      (λ a found r m e. absurd (omega arith))
+      (λ a r e. record { ours = a; read = r; gives = refl })
+      (λ a r e. absurd (omega arith))
+      (λ u o e. absurd (omega arith))
+      (λ could u o e. absurd (omega arith))
 
 -- ---- and forth: from what was seen to the outcome
 

@@ -167,12 +167,12 @@ module _ (receiver : Receiver) (is : T (lawful receiver)) (lent : List ℕ) wher
   unfolding nothing textTaken justClosed
   taken-lawful packet =
       by-effects receiver packet lent (λ (o : Outcome). T (lawful (o .receiver)))
-      is
+      (λ p. is)
       (λ row t. stored-lawful receiver row (textOf packet .bytes) is (t .with-open))
       (λ a found r m. header-taken-lawful found (textOf packet .bytes) (header-fits packet found r) m)
       (λ a found r m. closed-lawful receiver is)
       (λ a r. closed-lawful receiver is)
       (λ a r. is)
-      (λ o. closed-lawful (doubted receiver) (doubted-lawful receiver is o))
-      (λ could o.
+      (λ u o. closed-lawful (doubted receiver) (doubted-lawful receiver is o))
+      (λ could u o.
       chosen (λ (r : Receiver). T (lawful r)) (receiver .«open») (doubted receiver) receiver (doubted-lawful receiver is) (λ n. is))

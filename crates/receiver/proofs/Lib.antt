@@ -1,4 +1,5 @@
 pub mod Carried
+pub mod Changes
 pub mod Closings
 pub mod Counts
 pub mod Effects
@@ -14,6 +15,5 @@ pub mod Rows
 pub mod Shows
 pub mod Sized
 pub mod Sound
-pub mod Steps
 pub mod Undoubted
 pub mod Writes

@@ -1,7 +1,7 @@
 -- A lawful receiver with no page open: without doubt and with digits, time and control bits 0, so that closing leaves just this state, and a line of kind
 -- 4 changes nothing. And the sizes of a line's kind and count.
-use mathlib.Core.Path.{_≡_, refl, ap, sym}
-use mathlib.Core.Bool.{Bool, true, false, cond, not, _&&_}
+use mathlib.Core.Path.{_≡_, refl, ap, subst, sym}
+use mathlib.Core.Bool.{Bool, false, cond, not, _&&_}
 use mathlib.Core.List.{List}
 use Prim.Native.Nat.{ℕ, _≤_, _<_}
 use native.Mathlib.Omega.{arith}
@@ -9,7 +9,7 @@ use lib.Dec.{T, eqb, eqb→eq, lit<, lit≤}
 use lib.ListN.{getD}
 use Rattle.laws.proofs.Bools.{both-left, both-right}
 use Rattle.laws.proofs.Every.{every-at}
-use Rattle.laws.proofs.Keeps.{chosen}
+use Rattle.laws.proofs.Keeps.{chosen, chosen-second, failed}
 use Rattle.packet.specs.Headers.{headerValues, zeroHeader}
 use Rattle.packet.specs.Texts.{columns, textOf}
 use Rattle.packet.specs.declared.Header.{Header}
@@ -52,20 +52,12 @@ zero-header header t =
     value : (k : ℕ) → k < 7 → getD (headerValues header) k 0 ≡ 0
     value k h = sym (eqb→eq 0 (getD (headerValues header) k 0) (every-at (eqb 0) (headerValues header) t k 0 h))
 
-chosen-second : (b x y : Bool) → b ≡ false → T (cond b x y) → T y
-chosen-second true x y e t = absurd (let z : _≡_ {A = ℕ} 0 1 = cc in omega arith)
-chosen-second false x y e t = t
-
-is-not : (b : Bool) → T (not b) → b ≡ false
-is-not true t = absurd t
-is-not false t = refl
-
 module _ (receiver : Receiver) (is : T (lawful receiver)) where
   pub none-open-rests : receiver .«open» ≡ false → receiver ≡ shut receiver
   unfolding stateLawful shut
   none-open-rests o =
-      let state = chosen-second (receiver .«open») (matches (receiver .selection) (receiver .header)) (not (receiver .doubt) && isZero (receiver .header)) o (parts receiver is .state) in
-      let doubt = is-not (receiver .doubt) (both-left (not (receiver .doubt)) (isZero (receiver .header)) state) in
+      let state = chosen-second (receiver .«open») (matches (receiver .selection) (receiver .header)) (not (receiver .doubt) && isZero (receiver .header)) (subst (λ (b : Bool). T (not b)) (sym o) tt) (parts receiver is .state) in
+      let doubt = failed (receiver .doubt) (both-left (not (receiver .doubt)) (isZero (receiver .header)) state) in
       let header = zero-header (receiver .header) (both-right (not (receiver .doubt)) (isZero (receiver .header)) state) in
       λ i.
       record {
@@ -81,7 +73,7 @@ module _ (receiver : Receiver) (is : T (lawful receiver)) where
   unfolding closed
   closed-rests =
       chosen (λ (r : Receiver). r ≡ shut receiver) (receiver .«open») (shut receiver) receiver (λ o. refl)
-      (λ o. none-open-rests (is-not (receiver .«open») o))
+      (λ o. none-open-rests (failed (receiver .«open») o))
 
 -- an unsure line with none open is of kind 4 and changes nothing
 pub unsure-unopened : (receiver : Receiver) (could : Bool) (lent : List ℕ) → receiver .«open» ≡ false
@@ -101,14 +93,14 @@ module _ (receiver : Receiver) (packet lent : List ℕ) where
   unfolding nothing textTaken headerTaken justClosed
   kind-most =
       by-effects receiver packet lent (λ (o : Outcome). o .kind ≤ 5)
-      (lit≤ tt)
+      (λ p. lit≤ tt)
       (λ row t. lit≤ tt)
       (λ a found r m. lit≤ tt)
       (λ a found r m. lit≤ tt)
       (λ a r. lit≤ tt)
       (λ a r. lit≤ tt)
-      (λ o. lit≤ tt)
-      (λ could o. lit≤ tt)
+      (λ u o. lit≤ tt)
+      (λ could u o. lit≤ tt)
 
   row-count : (row : ℕ) → howMany (rowFound row (textOf packet .bytes)) ≤ columns
   row-count row =
@@ -118,11 +110,11 @@ module _ (receiver : Receiver) (packet lent : List ℕ) where
   unfolding nothing textTaken headerTaken justClosed
   count-at-most =
       by-effects receiver packet lent (λ (o : Outcome). o .count ≤ columns)
-      (lit≤ tt)
+      (λ p. lit≤ tt)
       (λ row t. row-count row)
       (λ a found r m. row-count 0)
       (λ a found r m. lit≤ tt)
       (λ a r. lit≤ tt)
       (λ a r. lit≤ tt)
-      (λ o. lit≤ tt)
-      (λ could o. lit≤ tt)
+      (λ u o. lit≤ tt)
+      (λ could u o. lit≤ tt)

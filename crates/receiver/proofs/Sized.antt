@@ -57,15 +57,15 @@ module _ (receiver : Receiver) (is : Sized (receiver .cells)) where
   unfolding nothing textTaken headerTaken justClosed rowStored doubted
   taken-sized packet lent =
       by-effects receiver packet lent (λ (o : Outcome). Sized (o .receiver .cells))
-      is
+      (λ p. is)
       (λ row t. stored-sized row (textOf packet .bytes) (receiver .cells) is)
       (λ a found r m.
       stored-sized 0 (textOf packet .bytes) (opened (closed receiver) found .cells) (opened-sized (closed receiver) found closed-sized))
       (λ a found r m. closed-sized)
       (λ a r. closed-sized)
       (λ a r. is)
-      (λ o. doubted-closed)
-      (λ could o. chosen (λ (x : Receiver). Sized (x .cells)) (receiver .«open») (doubted receiver) receiver (λ t. doubted-sized) (λ t. is))
+      (λ u o. doubted-closed)
+      (λ could u o. chosen (λ (x : Receiver). Sized (x .cells)) (receiver .«open») (doubted receiver) receiver (λ t. doubted-sized) (λ t. is))
     where
       doubted-sized : Sized (doubted receiver .cells)
       doubted-sized = is

@@ -97,11 +97,11 @@ module _ (receiver : Receiver) (is : T (lawful receiver)) (packet lent : List �
   unfolding nothing textTaken headerTaken justClosed doubted
   closing-line-writes =
       by-effects receiver packet lent (λ (o : Outcome). (o .closing ≡ closing.None → ⊥) → Wrote o)
-      (λ n. absurd (n refl))
+      (λ p n. absurd (n refl))
       (λ row t n. absurd (n refl))
       (λ a found r m n. inl (closed-wrote n))
       (λ a found r m n. inl (closed-wrote n))
       (λ a r n. inl (closed-wrote n))
       (λ a r n. absurd (n refl))
-      (λ o n. inr (refl, closing-writes-the-page (doubted receiver) (doubted-lawful receiver is o) o lent long))
-      (λ could o n. absurd (n refl))
+      (λ u o n. inr (refl, closing-writes-the-page (doubted receiver) (doubted-lawful receiver is o) o lent long))
+      (λ could u o n. absurd (n refl))
