@@ -21,11 +21,10 @@ use Rattle.packet.specs.declared.Header.{Header}
 use Rattle.page.specs.Lawful.{never}
 use Rattle.page.specs.Reading.{pageRead, readAnswer}
 use Rattle.page.specs.Records.{cellCount, recordLength, recordOf}
-use Rattle.page.specs.Writing.{pageAnswer}
 use Rattle.page.specs.declared.Cells.{Cells}
 use Rattle.page.specs.declared.Page.{Page}
 use Rattle.page.specs.declared.ReadAnswer.the-variants.{Read}
-use Rattle.page.specs.declared.WriteAnswer.the-variants as writing
+use Rattle.page.proofs.Trips.{page-read-back, reads-written}
 use Rattle.receiver.specs.Cells.{fresh}
 use Rattle.receiver.specs.Entries.{Entered, closingNumber, lawful}
 use Rattle.receiver.specs.Lines.{held}
@@ -132,95 +131,89 @@ clean-is closing.None e = absurd (omega arith)
 clean-is closing.Clean e = refl
 clean-is closing.Doubt e = absurd (omega arith)
 
--- ---- A and B, where what was written reads back
+-- ---- A
 
--- the page's law: what is written of a page that none of 24, 22 and 23 refuses reads back to it
-abbrev pub ReadsBack : Type 0
-ReadsBack =
-    (page : Page) → pageAnswer page ≡ writing.Written → Sized (page .cells)
-    → (readAnswer (recordOf page) ≡ Read) × (pageRead (recordOf page) ≡ page)
+module _ (run : Run) (fed : Fed run) (j : ℕ) (closes : ClosesClean run j) where
+  abbrev receiver : Receiver
+  receiver = receiverAt run fed j
 
-module _ (back : ReadsBack) where
-  module _ (run : Run) (fed : Fed run) (j : ℕ) (closes : ClosesClean run j) where
-    abbrev receiver : Receiver
-    receiver = receiverAt run fed j
+  stands : Stands run j receiver (lentAt run fed j)
+  stands = standing run fed j (omega (arith, closes .line))
 
-    stands : Stands run j receiver (lentAt run fed j)
-    stands = standing run fed j (omega (arith, closes .line))
+  closed-clean : Clean receiver (packetAt run fed j) (lentAt run fed j) (outcomeAt run fed j)
+  closed-clean =
+      clean-closing receiver (packetAt run fed j) (lentAt run fed j)
+      (clean-is (outcomeAt run fed j .closing)
+      (sym (closing-entered (outcomeAt run fed j)) ∙ (ap closingOf (sym (entry-is run fed j (closes .line))) ∙ closes .word)))
 
-    closed-clean : Clean receiver (packetAt run fed j) (lentAt run fed j) (outcomeAt run fed j)
-    closed-clean =
-        clean-closing receiver (packetAt run fed j) (lentAt run fed j)
-        (clean-is (outcomeAt run fed j .closing)
-        (sym (closing-entered (outcomeAt run fed j)) ∙ (ap closingOf (sym (entry-is run fed j (closes .line))) ∙ closes .word)))
+  record-is : recordAfter run j ≡ recordOf (held receiver)
+  record-is =
+      ap (take recordLength)
+      (ap (λ (e : Entered). e .lent) (entry-is run fed j (closes .line)) ∙ (lent-entered (outcomeAt run fed j) ∙ closed-clean .wrote))
+      ∙ take-at (recordOf (held receiver)) (drop recordLength (lentAt run fed j)) recordLength (length-record (held receiver))
 
-    record-is : recordAfter run j ≡ recordOf (held receiver)
-    record-is =
-        ap (take recordLength)
-        (ap (λ (e : Entered). e .lent) (entry-is run fed j (closes .line)) ∙ (lent-entered (outcomeAt run fed j) ∙ closed-clean .wrote))
-        ∙ take-at (recordOf (held receiver)) (drop recordLength (lentAt run fed j)) recordLength (length-record (held receiver))
+  reads-held : (readAnswer (recordOf (held receiver)) ≡ Read) × (pageRead (recordOf (held receiver)) ≡ held receiver)
+  unfolding held
+  reads-held = let answer = page-written receiver (stands .is) (rw (closed-clean .was-open) tt) in
+      (reads-written (held receiver) (stands .sized) answer, page-read-back (held receiver) (stands .sized) answer)
 
-    reads-held : (readAnswer (recordOf (held receiver)) ≡ Read) × (pageRead (recordOf (held receiver)) ≡ held receiver)
-    unfolding held
-    reads-held = back (held receiver) (page-written receiver (stands .is) (rw (closed-clean .was-open) tt)) (stands .sized)
+  opened-by : (i : ℕ) × Opening run j receiver i
+  opened-by = stands .held (closed-clean .was-open, closed-clean .undoubted)
 
-    opened-by : (i : ℕ) × Opening run j receiver i
-    opened-by = stands .held (closed-clean .was-open, closed-clean .undoubted)
-
-    received : Received run j (opened-by .0)
-    received =
-        let (i, opening) = opened-by in
-        let (ours, zeroth) = whole-sent (sentAt (run .lines) j) (receivedAt (run .lines) j) (line-at run fed j (closes .line) .0)
-        (line-at run fed j (closes .line) .1) (receiver .selection .magazine) 0 (closed-clean .ours) in
-        record {
-          follows =
-              record {
-                header = opening .header;
-                next = is-row (run .selection .magazine) 0 (sentAt (run .lines) j) (ours ∙ ap (λ (x : Selection). x .magazine) (stands .selects)) zeroth;
-                before = opening .before;
-                none-between = opening .none-between;
-              };
-          matched = opening .matched;
-          kind = opening .kind;
-          reads = ap readAnswer record-is ∙ reads-held .0;
-          holds =
-              subst (Holds run i j) (sym (ap pageRead record-is ∙ reads-held .1))
-              (held-holds run j receiver (lentAt run fed j) stands (closed-clean .undoubted) i opening
-              (length-sent (sentAt (run .lines) i) (line-at run fed i (omega (arith, opening .before, closes .line)) .0)));
-        }
-
-  pub proof-a : A
-  proof-a run fed j closes =
-      let i : ℕ = opened-by run fed j closes .0 in
-      let it : Received run j i = received run fed j closes in
-      (i, it, (λ k other. one-header run i k j (it .follows) (other .follows)))
-
-  -- ---- B
-
-  all-fresh-not : T (every (λ (mark : ℕ). not (eqb mark fresh)) (replicate columns fresh)) → ⊥
-  unfolding every
-  all-fresh-not t = t
-
-  -- one row of one page was sent with one text, or not at all
-  same-row : (cells : Cells) (row : ℕ) (a b : Option (List ℕ)) → RowHolds cells row a → RowHolds cells row b → a ≡ b
-  same-row cells row (some a) (some b) p q = ap {B = Option (List ℕ)} some (sym (p .0) ∙ q .0)
-  same-row cells row (some a) none p q = absurd (all-fresh-not (rw (p .1) at q))
-  same-row cells row none (some b) p q = absurd (all-fresh-not (rw (q .1) at p))
-  same-row cells row none none p q = refl
-
-  pub proof-b : B
-  proof-b run other fed fed′ i j k l closes closes′ follows follows′ same =
-      let a = proof-a run fed j closes in
-      let b = proof-a other fed′ l closes′ in
-      let page : Page = pageRead (recordAfter run j) in
-      let p : Holds run i j page =
-      subst (λ (n : ℕ). Holds run n j page) (one-header run i (a .0) j follows (a .1 .follows)) (a .1 .holds) in
-      let q : Holds other k l page =
-      subst (λ (n : ℕ). Holds other n l page) (one-header other k (b .0) l follows′ (b .1 .follows))
-      (subst (Holds other (b .0) l) (ap pageRead (sym same)) (b .1 .holds)) in
+  received : Received run j (opened-by .0)
+  received =
+      let (i, opening) = opened-by in
+      let (ours, zeroth) = whole-sent (sentAt (run .lines) j) (receivedAt (run .lines) j) (line-at run fed j (closes .line) .0)
+      (line-at run fed j (closes .line) .1) (receiver .selection .magazine) 0 (closed-clean .ours) in
       record {
-        magazine = sym (p .magazine) ∙ q .magazine;
-        header = sym (p .header) ∙ q .header;
-        header-text = sym (p .header-text) ∙ q .header-text;
-        rows = λ row low high. same-row (page .cells) row _ _ (p .rows row low high) (q .rows row low high);
+        follows =
+            record {
+              header = opening .header;
+              next = is-row (run .selection .magazine) 0 (sentAt (run .lines) j) (ours ∙ ap (λ (x : Selection). x .magazine) (stands .selects)) zeroth;
+              before = opening .before;
+              none-between = opening .none-between;
+            };
+        matched = opening .matched;
+        kind = opening .kind;
+        reads = ap readAnswer record-is ∙ reads-held .0;
+        holds =
+            subst (Holds run i j) (sym (ap pageRead record-is ∙ reads-held .1))
+            (held-holds run j receiver (lentAt run fed j) stands (closed-clean .undoubted) i opening
+            (length-sent (sentAt (run .lines) i) (line-at run fed i (omega (arith, opening .before, closes .line)) .0)));
       }
+
+pub proof-a : A
+proof-a run fed j closes =
+    let i : ℕ = opened-by run fed j closes .0 in
+    let it : Received run j i = received run fed j closes in
+    (i, it, (λ k other. one-header run i k j (it .follows) (other .follows)))
+
+-- ---- B
+
+all-fresh-not : T (every (λ (mark : ℕ). not (eqb mark fresh)) (replicate columns fresh)) → ⊥
+unfolding every
+all-fresh-not t = t
+
+-- one row of one page was sent with one text, or not at all
+same-row : (cells : Cells) (row : ℕ) (a b : Option (List ℕ)) → RowHolds cells row a → RowHolds cells row b → a ≡ b
+same-row cells row (some a) (some b) p q = ap {B = Option (List ℕ)} some (sym (p .0) ∙ q .0)
+same-row cells row (some a) none p q = absurd (all-fresh-not (rw (p .1) at q))
+same-row cells row none (some b) p q = absurd (all-fresh-not (rw (q .1) at p))
+same-row cells row none none p q = refl
+
+pub proof-b : B
+proof-b run other fed fed′ i j k l closes closes′ follows follows′ same =
+    let a = proof-a run fed j closes in
+    let b = proof-a other fed′ l closes′ in
+    let page : Page = pageRead (recordAfter run j) in
+    let p : Holds run i j page =
+    subst (λ (n : ℕ). Holds run n j page) (one-header run i (a .0) j follows (a .1 .follows)) (a .1 .holds) in
+    let q : Holds other k l page =
+    subst (λ (n : ℕ). Holds other n l page) (one-header other k (b .0) l follows′ (b .1 .follows))
+    (subst (Holds other (b .0) l) (ap pageRead (sym same)) (b .1 .holds)) in
+    record {
+      magazine = sym (p .magazine) ∙ q .magazine;
+      header = sym (p .header) ∙ q .header;
+      header-text = sym (p .header-text) ∙ q .header-text;
+      rows = λ row low high. same-row (page .cells) row _ _ (p .rows row low high) (q .rows row low high);
+    }

@@ -15,20 +15,21 @@ use Rattle.packet.specs.Addresses.{lastRow}
 use Rattle.packet.specs.Sent.{damage, linePacket, sentByRules, sentHeader, sentMagazine, sentRow, sentText}
 use Rattle.packet.specs.Texts.{columns, headerColumn, textOf}
 use Rattle.packet.specs.declared.Header.{Header}
+use Rattle.packet.proofs.Sent.{received-packet}
 use Rattle.page.specs.declared.Cells.{Cells}
 use Rattle.receiver.specs.Cells.{firstColumn, fresh}
 use Rattle.receiver.specs.Lines.{Outcome, nothing, taken}
 use Rattle.receiver.specs.Selections.{matches}
 use Rattle.receiver.specs.declared.Receiver.{Receiver}
 use Rattle.receiver.specs.declared.Selection.{Selection}
-use Rattle.receiver.proofs.Carried.{Going, Whole, WentBy, going-on}
+use Rattle.receiver.proofs.Carried.{Going, Passed, WholeRow, going-on}
 use Rattle.receiver.proofs.Effects.{Opens, kind-2-opens}
 use Rattle.receiver.proofs.Rows.{Stays, characterAt, header-first, markAt, text-first}
 use Rattle.receiver.proofs.Sized.{Sized}
-use Rattle.receiver.proofs.Steps.{Shown, opening-header, opening-none-fresh, opening-text, storing-header, storing-others, storing-text}
+use Rattle.receiver.proofs.Changes.{Shown, opening-header, opening-none-fresh, opening-text, storing-header, storing-others, storing-text}
 use Rattle.demands.specs.Demands.{throughout}
 use Rattle.demands.specs.Runs.{Line, Run, entryAt, isRow, kindOf, lastText, lineAt, receivedAt, sentAt}
-use Rattle.demands.proofs.Told.{column-sent, goes-by, header-sent, length-sent, whole-sent}
+use Rattle.demands.proofs.Told.{column-sent, header-sent, length-sent, passes-others, whole-sent}
 
 -- ---- rows as they were sent
 
@@ -188,15 +189,16 @@ module _ (run : Run) (k : ℕ) (receiver : Receiver) (lent : List ℕ) (selects 
       },
     )
 
-    gone-by : outcome ≡ nothing receiver lent → After receiver
-    gone-by e =
-        let other : (row : ℕ) → row ≤ lastRow → T (isRow m row s) → ⊥
-        = λ row high t.
-        goes-by s r sent damaged receiver lent (was-going .0) e (row-is m row s t .0 ∙ sym same-magazine) (omega (arith, row-is m row s t .1)) in
+    gone-by : Passed receiver packet lent outcome → After receiver
+    gone-by by =
+        let other : (row : ℕ) → row ≤ lastRow → T (isRow m row s) → ⊥ =
+        λ row high t.
+        passes-others s r sent damaged (receiver .selection) (receiver .«open») (was-going .0) (by .passes) (row-is m row s t .0 ∙ sym same-magazine)
+        (omega (arith, row-is m row s t .1)) in
         further receiver refl (other 0 (omega arith)) (was .text)
         (λ row low high. subst (RowIs (receiver .cells) row) (sym (text-stays m row (run .lines) i k (other row high))) (was .rows row low high))
 
-    module _ (whole : Whole receiver packet lent outcome) where
+    module _ (whole : WholeRow receiver packet lent outcome) where
       abbrev row-stored : ℕ
       row-stored = whole .stores .row
 
@@ -232,13 +234,14 @@ module _ (run : Run) (k : ℕ) (receiver : Receiver) (lent : List ℕ) (selects 
           (others-stay 0 (λ e. omega (arith, whole .stores .ours .first)) c h) (was .text c low h))
           (λ row low high. stored-row row low high (ℕ-discrete row row-stored))
 
-    went-by : WentBy receiver packet lent outcome → After (outcome .receiver)
+    went-by : Passed receiver packet lent outcome ⊎ WholeRow receiver packet lent outcome → After (outcome .receiver)
     unfolding nothing
-    went-by (inl e) = subst After (sym (ap (λ (o : Outcome). o .receiver) e)) (gone-by e)
+    went-by (inl by) = subst After (sym (ap (λ (o : Outcome). o .receiver) (by .gives))) (gone-by by)
     went-by (inr whole) = stored-here whole
 
   -- ---- and so after any line
 
   pub held-after : kindOf (entryAt run k) ≡ outcome .kind → Held run (suc k) (outcome .receiver)
   held-after kind going =
-      ⊎-elim (λ e. opened-here (kind ∙ e) (kind-2-opens receiver packet lent e) going) (λ on. went-by (on .0) (on .1)) (going-on receiver packet lent going)
+      ⊎-elim (λ e. opened-here (kind ∙ e) (kind-2-opens receiver packet lent e) going) (λ on. went-by (on .0) (on .1))
+      (going-on receiver packet lent (received-packet throughout s r damaged) going)

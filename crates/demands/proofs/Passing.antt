@@ -24,7 +24,7 @@ use Rattle.receiver.proofs.Carried.{Going}
 use Rattle.receiver.proofs.Closings.{closes-clean, header-closes}
 use Rattle.receiver.proofs.Effects.{Opens, Stores, seenBy, taken-opens, taken-passed, taken-text}
 use Rattle.receiver.proofs.Shows.{sees-header, sees-late, sees-other, sees-text}
-use Rattle.receiver.proofs.Steps.{opening-count, opening-doubt, opening-open, storing-doubt, storing-open}
+use Rattle.receiver.proofs.Changes.{opening-count, opening-doubt, opening-open, storing-doubt, storing-open}
 use Rattle.demands.specs.Demands.{C, Fed, Follows, Light, Passes, lightly}
 use Rattle.demands.specs.Runs.{Run, characterBytes, closingOf, countOf, entryAt, isRow, kindOf, lineAt, receivedAt, sentAt}
 use Rattle.demands.proofs.Keeping.{is-row, row-is}

@@ -1,7 +1,7 @@
 -- Binary digits and the number that they write are one and the same, both ways; and where digits are cut in two, so is the number.
 use mathlib.Core.Path.{_≡_, refl, _∙_, ap, sym}
 use mathlib.Core.List.{List, [], _∷_, _++_}
-use Prim.Native.Nat.{ℕ, zero, suc, _+_, _*_, _/_, _%_, _^_, _<_, _≤_}
+use Prim.Native.Nat.{ℕ, zero, suc, _+_, _*_, _/_, _%_, _^_, _<_}
 use native.Mathlib.Nat.{add-comm, add-mul, zero-add, suc-add, mul-assoc, mod-one, mod-lt, mod-eq-of-lt, mul-add-div-right, mul-add-mod-self-right, pow-succ', zero-lt-suc}
 use native.Mathlib.Numerals.{one-add}
 use native.Mathlib.Omega.{arith}

@@ -1,12 +1,11 @@
 -- Fields and their bits are one and the same, both ways: what is packed is read back, and what is read is packed into the same bits, for fields of any
 -- widths. Bytes are fields of eight bits, so that a packed form and its bytes are two ways to cut the same bits.
 use mathlib.Core.Path.{_≡_, refl, _∙_, ap, sym}
-use mathlib.Core.Bool.{Bool}
+use mathlib.Core.Bool.{true}
 use mathlib.Core.List.{List, [], _∷_, _++_, append-assoc, append-nil}
 use Prim.Native.Nat.{ℕ, zero, suc, _+_, _*_, _^_, _<_, _≤_}
-use native.Mathlib.Nat.{add-assoc}
 use native.Mathlib.Omega.{arith}
-use borrow.Author.Tests.{ltb-true}
+use borrow.Author.Tests.{lt-ltb, ltb-true}
 use lib.Dec.{T, ltb}
 use lib.ListN.{length, length-append, length-take, length-drop, length-replicate, replicate, replicate-append-replicate, take, drop, take-append-drop}
 use lib.Seq.{take-append-le, drop-append-le, take-at, drop-at}
@@ -32,6 +31,13 @@ fit-tested (w ∷ widths) (v ∷ values) t = (
   ltb-true v (2 ^ w) (passed (ltb v (2 ^ w)) (both-left (ltb v (2 ^ w)) (everyPair fits widths values) t)),
   fit-tested widths values (both-right (ltb v (2 ^ w)) (everyPair fits widths values) t),
 )
+
+pub tested-fit : (widths values : List ℕ) → Fit widths values → everyPair fits widths values ≡ true
+unfolding everyPair fits
+tested-fit [] [] h = refl
+tested-fit [] (v ∷ values) h = absurd h
+tested-fit (w ∷ widths) [] h = absurd h
+tested-fit (w ∷ widths) (v ∷ values) h = rw (lt-ltb v (2 ^ w) (h .0), tested-fit widths values (h .1))
 
 pub fit-append : (widths values widths′ values′ : List ℕ) → Fit widths values → Fit widths′ values′ → Fit (widths ++ widths′) (values ++ values′)
 fit-append [] [] widths′ values′ h k = k

@@ -8,5 +8,7 @@ pub mod Inverse
 pub mod Keeps
 pub mod Lists
 pub mod Maps
+pub mod Opposite
+pub mod Runs
 pub mod Table
 pub mod Tabulated

@@ -1,12 +1,12 @@
 -- A list is its own elements, one by one; two lists are equal where they are so at the head and behind it.
 use mathlib.Core.Path.{_≡_, refl, _∙_, ap, sym}
-use mathlib.Core.List.{List, [], _∷_}
-use Prim.Native.Nat.{ℕ, zero, suc, _<_}
+use mathlib.Core.List.{List, _∷_}
+use Prim.Native.Nat.{ℕ, zero, suc}
 use lib.ListN.{length, getD}
 use lib.Seq.{ext-getD}
 use Rattle.laws.proofs.Table.{tabulate, entry}
 
-length-tabulate : (rule : ℕ → ℕ) (n i : ℕ) → length (tabulate rule i n) ≡ n
+pub length-tabulate : (rule : ℕ → ℕ) (n i : ℕ) → length (tabulate rule i n) ≡ n
 length-tabulate rule zero i = refl
 length-tabulate rule (suc n) i = ap suc (length-tabulate rule n (suc i))
 

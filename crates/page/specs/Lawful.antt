@@ -1,6 +1,6 @@
 -- Document 01, "Numbers of refusal": what 24, 22 and 23 ask, each over the whole of a page, and each part to be used alone.
 use mathlib.Core.Bool.{Bool, cond, not, _&&_, _||_}
-use mathlib.Core.List.{List, []}
+use mathlib.Core.List.{[]}
 use Prim.Native.Nat.{ℕ}
 use lib.Dec.{eqb, leb}
 use lib.ListN.{take}

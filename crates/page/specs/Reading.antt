@@ -7,7 +7,7 @@ use lib.ListN.{length, replicate}
 use Rattle.laws.specs.Paper.{Paper, accepted, refusedBy}
 use Rattle.packet.specs.declared.Header.{Header}
 use Rattle.page.specs.Lawful.{digitsLawful, cellsLawful}
-use Rattle.page.specs.Records.{cellCount, recordLength, recordValues, zeroFrom, pageFrom}
+use Rattle.page.specs.Records.{cellCount, cellsOf, recordLength, recordValues, zeroFrom, pageFrom}
 use Rattle.page.specs.declared.Page.{Page}
 use Rattle.page.specs.declared.ReadAnswer.{ReadAnswer}
 use Rattle.page.specs.declared.ReadAnswer.the-variants.{Read, WrongLength, NotZero, BadDigit, UnlawfulCells}
@@ -32,7 +32,7 @@ zeroPage =
       magazine = 0;
       header = zeroHeader;
       clean = false;
-      cells = record { characters = replicate cellCount 0; marks = replicate cellCount 0 };
+      cells = cellsOf (replicate cellCount 0) (replicate cellCount 0);
     }
 
 -- the page of a record's bytes, whether it is lawful or not

@@ -1,6 +1,6 @@
 -- Document 01, "The page record": bit-packed, most significant first: magazine 3 (0 for 8), page tens 4, units 4, hours tens 2, units 4, minutes
 -- tens 3, units 4, C4 to C14 in order 11, clean 1, zero 4; then 960 cells row by row, mark 2 and character 7. In all 1,085 bytes.
-use mathlib.Core.Bool.{cond}
+use mathlib.Core.Bool.{Bool, cond}
 use mathlib.Core.List.{List, [], _∷_, _++_}
 use Prim.Native.Nat.{ℕ, zero, suc, _*_, _%_}
 use lib.Dec.{eqb}
@@ -58,13 +58,16 @@ recordWidths = headWidths ++ cellWidths cellCount
 
 -- ---- the values of a page, in their order
 
+abbrev pub cellsOf : List ℕ → List ℕ → Cells
+cellsOf characters marks = record { characters = characters; marks = marks }
+
 -- 0 for 8
 unfoldable pub magazineValue : ℕ → ℕ
 magazineValue magazine = magazine % 8
 
-unfoldable pub headValues : Page → List ℕ
+unfoldable pub headValues : ℕ → Header → Bool → List ℕ
 unfolding magazineValue headerValues
-headValues page = magazineValue (page .magazine) ∷ headerValues (page .header) ++ (cond (page .clean) 1 0 ∷ 0 ∷ [])
+headValues magazine header clean = magazineValue magazine ∷ headerValues header ++ (cond clean 1 0 ∷ 0 ∷ [])
 
 -- each cell's mark and character, from the marks and the characters
 unfoldable pub cellValues : List ℕ → List ℕ → List ℕ
@@ -74,7 +77,7 @@ cellValues (mark ∷ marks) (character ∷ characters) = mark ∷ character ∷ 
 
 unfoldable pub valuesOf : Page → List ℕ
 unfolding headValues cellValues
-valuesOf page = headValues page ++ cellValues (page .cells .marks) (page .cells .characters)
+valuesOf page = headValues (page .magazine) (page .header) (page .clean) ++ cellValues (page .cells .marks) (page .cells .characters)
 
 unfoldable pub recordOf : Page → List ℕ
 unfolding bytesOf fieldsBits recordWidths valuesOf
@@ -120,7 +123,7 @@ charactersFrom (mark ∷ character ∷ values) = character ∷ charactersFrom va
 
 unfoldable pub cellsFrom : List ℕ → Cells
 unfolding marksFrom charactersFrom
-cellsFrom values = record { characters = charactersFrom values; marks = marksFrom values }
+cellsFrom values = cellsOf (charactersFrom values) (marksFrom values)
 
 unfoldable pub pageFrom : List ℕ → Page
 unfolding magazineFrom headerAt cellsFrom

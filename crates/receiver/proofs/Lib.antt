@@ -1,3 +1,5 @@
+pub mod Asked
+pub mod Asking
 pub mod Carried
 pub mod Changes
 pub mod Closings
@@ -15,5 +17,7 @@ pub mod Rows
 pub mod Shows
 pub mod Sized
 pub mod Sound
+pub mod Steps
 pub mod Undoubted
+pub mod Unique
 pub mod Writes

@@ -2,6 +2,7 @@
 -- handed in comes back and the lent record is untouched. And the constructor, 13.
 use mathlib.Core.Bool.{Bool, false, cond, not, _&&_}
 use mathlib.Core.List.{List, [], _∷_}
+use mathlib.Core.Path.{_≡_}
 use Prim.Native.Nat.{ℕ}
 use lib.Dec.{eqb, ltb}
 use lib.ListN.{length, replicate}
@@ -23,6 +24,7 @@ use Rattle.receiver.specs.declared.Closing.{Closing}
 use Rattle.receiver.specs.declared.Closing.the-variants as closing
 use Rattle.receiver.specs.declared.Receiver.{Receiver}
 use Rattle.receiver.specs.declared.Selection.{Selection}
+use Rattle.receiver.specs.declared.Stepped.{Stepped}
 use Rattle.receiver.specs.declared.When.the-variants.{Any}
 
 -- ---- the numbers and values of the answers
@@ -113,6 +115,12 @@ packetEntered receiver packet lent = asked receiver lent (packetTaken receiver p
 unfoldable pub lineEntered : Receiver → List ℕ → List ℕ → Entered
 unfolding asked lineBy framed
 lineEntered receiver line lent = asked receiver lent (lineBy (framed line) receiver line lent)
+
+-- what the code of an entry gives, where it was lent a record that then holds `lent`
+pub record Meets (promised : Entered) (stepped : Stepped) (lent : List ℕ) : Type 0 where
+  pub answered : answerPaper (stepped .answer) ≡ promised .answer
+  pub kept : stepped .receiver ≡ promised .receiver
+  pub left : lent ≡ promised .lent
 
 -- ---- the constructor
 

@@ -1,17 +1,20 @@
 // The receiver of one selected page, by value: a line or a packet goes in with the receiver and a lent record, and the receiver comes back. The lent
 // record is written only where a page closes.
 ghost use mathlib.Core.Bool.{true};
-ghost use mathlib.Core.List.{map};
+ghost use mathlib.Core.List.{[], map};
 ghost use mathlib.Core.Path.{_≡_};
 ghost use Prim.Native.Nat.{_+_, _-_, _≤_};
-ghost use lib.ListN.{drop, length};
+ghost use lib.ListN.{length};
 ghost use Rattle.packet.specs.Addresses.{lastRow};
-ghost use Rattle.packet.specs.Headers.{zeroHeader};
+ghost use Rattle.packet.specs.Headers.{headerOf, zeroHeader};
+ghost use Rattle.packet.specs.Lines.{packetLength};
+ghost use Rattle.packet.specs.Texts.{textOf};
+ghost use Rattle.page.specs.Lawful.{cellsFit, cellsLawful};
 ghost use Rattle.page.specs.Records.{recordLength};
-ghost use Rattle.receiver.specs.Cells.{age, aged, blank, firstColumn, howMany, keptCharacter, keptMark, laid, oneMissing, rowFound, stored};
-ghost use Rattle.receiver.specs.Entries.{answerPaper, entered, lawful, lineEntered, made, madeAnswer, packetEntered};
-ghost use Rattle.receiver.specs.Lines.{openingCells, closed, closingWord, headerTaken, justClosed, lentAfter, opened, rowStored, taken, textTaken, unsureTaken};
-ghost use Rattle.receiver.specs.Private.{foundFrom, heard, laidRow, one};
+ghost use Rattle.receiver.specs.Cells.{age, firstColumn, howMany, keptCharacter, keptMark, rowFound};
+ghost use Rattle.receiver.specs.Entries.{Meets, isZero, lawful, lineEntered, made, madeAnswer, packetEntered, packetTaken};
+ghost use Rattle.receiver.specs.Lines.{closed, closingWord, doubted, effect, headerSeen, headerTaken, justClosed, lentAfter, nothing, openingCells, rowStored, seenWhole, textTaken, unsureTaken};
+ghost use Rattle.receiver.specs.Private.{Took, bothLawful, foundFrom, heard, laidRow, one, stateOf, wordOf};
 ghost use Rattle.receiver.specs.Selections.{inRange, matches, selectedPaper, timeMatches, whenInRange};
 use coding::Character;
 use packet::Address;
@@ -347,12 +350,339 @@ fn store_row(receiver: Receiver, row: u8, bytes: [u8; 40]) -> Stored
     }
 }
 
-fn closing_word(open: bool, doubt: bool) -> Closing {
-    if open {
+fn closing_word(is_open: bool, doubt: bool) -> Closing
+    ensures { λ r. ⌜ r ≡ wordOf «is_open» doubt ⌝ }
+{
+    if is_open {
         if doubt {
             return Closing::Doubt;
         }
         return Closing::Clean;
     }
     Closing::None
+}
+
+fn is_zero(header: Header) -> bool
+    ensures { λ r. ⌜ r ≡ isZero header ⌝ }
+{
+    (0 == header.tens)
+        & ((0 == header.units)
+            & ((0 == header.hours_tens)
+                & ((0 == header.hours_units)
+                    & ((0 == header.minutes_tens)
+                        & ((0 == header.minutes_units) & (0 == header.control))))))
+}
+
+// Whether the header of a receiver is as it must be: that of the selected page where one is open, and zero with no doubt where none is.
+fn state_lawful(selection: Selection, is_open: bool, doubt: bool, header: Header) -> bool
+    ensures { λ r. ⌜ r ≡ stateOf selection «is_open» doubt header ⌝ }
+{
+    if is_open {
+        return is_selected(selection, header);
+    }
+    !doubt & is_zero(header)
+}
+
+fn cells_lawful(cells: Cells) -> bool
+    ensures { λ r. ⌜ r ≡ bothLawful cells ⌝ }
+{
+    let characters = cells.characters;
+    let marks = cells.marks;
+    match page::check_cells(&characters, &marks) {
+        CellsCheck::Lawful => true,
+        CellsCheck::TooLarge => false,
+        CellsCheck::Unlawful => false,
+    }
+}
+
+// Whether 18 has nothing against a receiver.
+fn is_lawful(receiver: Receiver) -> bool
+    ensures { λ r. ⌜ r ≡ lawful receiver ⌝ }
+{
+    let selection = receiver.selection;
+    let header = receiver.header;
+    let cells = receiver.cells;
+    in_range(selection)
+        & state_lawful(selection, receiver.open, receiver.doubt, header)
+        & page::header_fits(header)
+        & cells_lawful(cells)
+}
+
+// Closes the page, where one is open: the record is written, and the receiver keeps its cells alone.
+fn close(receiver: Receiver, record: &mut [u8]) -> Closed
+    requires { ⌜ (lawful receiver ≡ true) × (recordLength ≤ length (now «record»)) ⌝ }
+    ensures { λ r. ⌜ (r .receiver ≡ closed receiver) × (r .closing ≡ closingWord receiver) × (now («record» .exit) ≡ lentAfter receiver (now («record» .entry))) ⌝ }
+{
+    let closing = closing_word(receiver.open, receiver.doubt);
+    if !receiver.open {
+        return Closed { receiver, closing };
+    }
+    let selection = receiver.selection;
+    let cells = receiver.cells;
+    let old = receiver.header;
+    let page = Page {
+        magazine: receiver.selection.magazine,
+        header: old,
+        clean: !receiver.doubt,
+        cells,
+    };
+    page::write_record(page, record);
+    let header = zero_header();
+    let shut = Receiver {
+        selection,
+        open: false,
+        doubt: false,
+        header,
+        cells,
+    };
+    Closed {
+        receiver: shut,
+        closing,
+    }
+}
+
+fn with_doubt(receiver: Receiver) -> Receiver
+    ensures { λ r. ⌜ r ≡ doubted receiver ⌝ }
+{
+    let mut after = receiver;
+    after.doubt = true;
+    after
+}
+
+// A line that is none of ours: nothing happens.
+fn passed_over(receiver: Receiver) -> Stepped
+    ensures { λ r. ⌜ Took (nothing receiver []) r [] ⌝ }
+{
+    Stepped {
+        receiver,
+        answer: Answer::Taken {
+            kind: 0,
+            count: 0,
+            closing: Closing::None,
+        },
+    }
+}
+
+// Our row 1 to 23 with a page open: kind 1.
+fn text_line(receiver: Receiver, row: u8, packet: &[u8]) -> Stepped
+    requires { ⌜ (row ≤ lastRow) × (length (now packet) ≡ packetLength) ⌝ }
+    ensures { λ r. ⌜ Took (textTaken receiver row (textOf (now (packet .entry)) .bytes) []) r [] ⌝ }
+{
+    let text = packet::text_of(packet);
+    let bytes = text.bytes;
+    let stored = store_row(receiver, row, bytes);
+    let after = stored.receiver;
+    Stepped {
+        receiver: after,
+        answer: Answer::Taken {
+            kind: 1,
+            count: stored.count,
+            closing: Closing::None,
+        },
+    }
+}
+
+// A line that closes the page and does no more.
+fn just_close(receiver: Receiver, kind: u8, record: &mut [u8]) -> Stepped
+    requires { ⌜ (lawful receiver ≡ true) × (recordLength ≤ length (now «record»)) ⌝ }
+    ensures { λ r. ⌜ Took (justClosed receiver kind (now («record» .entry))) r (now («record» .exit)) ⌝ }
+{
+    let shut = close(receiver, record);
+    let after = shut.receiver;
+    let closing = shut.closing;
+    Stepped {
+        receiver: after,
+        answer: Answer::Taken {
+            kind,
+            count: 0,
+            closing,
+        },
+    }
+}
+
+// Our row 0 of the selected page: close, then open, then store. Kind 2.
+fn matching_header(receiver: Receiver, header: Header, packet: &[u8], record: &mut [u8]) -> Stepped
+    requires { ⌜ (lawful receiver ≡ true) × (length (now packet) ≡ packetLength) × (recordLength ≤ length (now «record»)) ⌝ }
+    ensures { λ r. ⌜ Took (headerTaken receiver header (textOf (now (packet .entry)) .bytes) (now («record» .entry))) r (now («record» .exit)) ⌝ }
+{
+    let shut = close(receiver, record);
+    let old = shut.receiver;
+    let selection = old.selection;
+    let held = old.cells;
+    let cells = opening_cells(held, header);
+    let opened = Receiver {
+        selection,
+        open: true,
+        doubt: false,
+        header,
+        cells,
+    };
+    let text = packet::text_of(packet);
+    let bytes = text.bytes;
+    let stored = store_row(opened, 0, bytes);
+    let after = stored.receiver;
+    let closing = shut.closing;
+    Stepped {
+        receiver: after,
+        answer: Answer::Taken {
+            kind: 2,
+            count: stored.count,
+            closing,
+        },
+    }
+}
+
+// Our row 0: kinds 2, 3 and 5.
+fn header_line(receiver: Receiver, packet: &[u8], record: &mut [u8]) -> Stepped
+    requires { ⌜ (lawful receiver ≡ true) × (length (now packet) ≡ packetLength) × (recordLength ≤ length (now «record»)) ⌝ }
+    ensures { λ r. ⌜ Took (headerSeen receiver (headerOf (now (packet .entry))) (textOf (now (packet .entry)) .bytes) (now («record» .entry))) r (now («record» .exit)) ⌝ }
+{
+    match packet::header_of(packet) {
+        HeaderRead::Good(header) => {
+            let selection = receiver.selection;
+            if is_selected(selection, header) {
+                matching_header(receiver, header, packet, record)
+            } else {
+                just_close(receiver, 3, record)
+            }
+        }
+        HeaderRead::Spoiled => just_close(receiver, 5, record),
+        HeaderRead::WrongLength => passed_over(receiver),
+    }
+}
+
+// An address message refused, may be ours: kind 4.
+fn unsure_line(receiver: Receiver, could_be_header: bool, record: &mut [u8]) -> Stepped
+    requires { ⌜ (lawful receiver ≡ true) × (recordLength ≤ length (now «record»)) ⌝ }
+    ensures { λ r. ⌜ Took (unsureTaken receiver «could_be_header» (now («record» .entry))) r (now («record» .exit)) ⌝ }
+{
+    if !receiver.open {
+        return Stepped {
+            receiver,
+            answer: Answer::Taken {
+                kind: 4,
+                count: 0,
+                closing: Closing::None,
+            },
+        };
+    }
+    let doubtful = with_doubt(receiver);
+    if could_be_header {
+        return just_close(doubtful, 4, record);
+    }
+    Stepped {
+        receiver: doubtful,
+        answer: Answer::Taken {
+            kind: 4,
+            count: 0,
+            closing: Closing::None,
+        },
+    }
+}
+
+// Both address messages good.
+fn whole_address(
+    receiver: Receiver,
+    magazine: u8,
+    row: u8,
+    packet: &[u8],
+    record: &mut [u8],
+) -> Stepped
+    requires { ⌜ (lawful receiver ≡ true) × (length (now packet) ≡ packetLength) × (recordLength ≤ length (now «record»)) ⌝ }
+    ensures { λ r. ⌜ Took (effect receiver (seenWhole (receiver .selection) (receiver .«open») magazine row) (now (packet .entry)) (now («record» .entry))) r (now («record» .exit)) ⌝ }
+{
+    if magazine != receiver.selection.magazine {
+        return passed_over(receiver);
+    }
+    if row == 0 {
+        return header_line(receiver, packet, record);
+    }
+    if row > 23 {
+        return passed_over(receiver);
+    }
+    if receiver.open {
+        text_line(receiver, row, packet)
+    } else {
+        passed_over(receiver)
+    }
+}
+
+// One packet, for a receiver that is known to be lawful and a record that is long enough: what the address shows, then the kind, then the effect.
+fn step(receiver: Receiver, packet: &[u8], record: &mut [u8]) -> Stepped
+    requires { ⌜ (lawful receiver ≡ true) × (recordLength ≤ length (now «record»)) ⌝ }
+    ensures { λ r. ⌜ Meets (packetTaken receiver (now (packet .entry)) (now («record» .entry))) r (now («record» .exit)) ⌝ }
+{
+    match packet::address_of(packet) {
+        Address::Whole { magazine, row } => whole_address(receiver, magazine, row, packet, record),
+        Address::First { magazine, weight1 } => {
+            if magazine == receiver.selection.magazine {
+                unsure_line(receiver, weight1 == 0, record)
+            } else {
+                passed_over(receiver)
+            }
+        }
+        Address::Second { weights } => {
+            if weights >= 24 {
+                passed_over(receiver)
+            } else {
+                unsure_line(receiver, weights == 0, record)
+            }
+        }
+        Address::Unread => unsure_line(receiver, true, record),
+        Address::WrongLength => Stepped {
+            receiver,
+            answer: Answer::WrongLength,
+        },
+    }
+}
+
+// A packet of 42 bytes, from a data field.
+pub fn take_packet(receiver: Receiver, packet: &[u8], record: &mut [u8]) -> Stepped
+    ensures { λ r. ⌜ Meets (packetEntered receiver (now (packet .entry)) (now («record» .entry))) r (now («record» .exit)) ⌝ }
+{
+    if !is_lawful(receiver) {
+        return Stepped {
+            receiver,
+            answer: Answer::Unlawful,
+        };
+    }
+    if record.len() < page::RECORD_LENGTH {
+        return Stepped {
+            receiver,
+            answer: Answer::ShortRecord,
+        };
+    }
+    step(receiver, packet, record)
+}
+
+// A data-line of 45 bytes.
+pub fn take_line(receiver: Receiver, line: &[u8], record: &mut [u8]) -> Stepped
+    ensures { λ r. ⌜ Meets (lineEntered receiver (now (line .entry)) (now («record» .entry))) r (now («record» .exit)) ⌝ }
+{
+    if !is_lawful(receiver) {
+        return Stepped {
+            receiver,
+            answer: Answer::Unlawful,
+        };
+    }
+    if record.len() < page::RECORD_LENGTH {
+        return Stepped {
+            receiver,
+            answer: Answer::ShortRecord,
+        };
+    }
+    match packet::framed_line(line) {
+        Framed::Packet => {
+            let packet = packet::packet_of(line);
+            step(receiver, packet, record)
+        }
+        Framed::WrongLength => Stepped {
+            receiver,
+            answer: Answer::WrongLength,
+        },
+        Framed::WrongFraming => Stepped {
+            receiver,
+            answer: Answer::WrongFraming,
+        },
+    }
 }

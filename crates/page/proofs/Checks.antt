@@ -1,0 +1,114 @@
+-- The checks of 24 and 23 cell by cell, and what each answer shows.
+use mathlib.Core.Path.{_≡_, refl, _∙_, sym}
+use mathlib.Core.Bool.{Bool, true, false, not, cond, _&&_, _||_, Bool·not-not, and-comm, and-true, or-assoc, or-false}
+use mathlib.Core.List.{List}
+use Prim.Native.Nat.{ℕ, suc, _+_, _<_, _≤_}
+use native.Mathlib.Numerals.{add-one}
+use native.Mathlib.Omega.{arith}
+use lib.Dec.{eqb, ltb}
+use lib.ListN.{length, getD, take, drop, drop-of-length-le}
+use lib.Seq.{drop-cons}
+use Rattle.laws.specs.Every.{every, everyPair}
+use Rattle.laws.specs.Fields.{fits}
+use Rattle.laws.proofs.Opposite.{not-and, below-is, at-most-is}
+use Rattle.laws.proofs.Runs.{part-is}
+use Rattle.page.specs.Lawful.{cellLawful, cellsChecked, cellsFit, cellsLawful, isNever}
+use Rattle.page.specs.Records.{cellsOf}
+use Rattle.page.specs.declared.Cells.{Cells}
+use Rattle.page.specs.declared.CellsCheck.{CellsCheck}
+use Rattle.page.specs.declared.CellsCheck.the-variants.{Lawful, TooLarge, Unlawful}
+
+-- ---- the columns 0 to 7 of row 0
+
+pub header-columns : (marks : List ℕ) → 8 ≤ length marks
+    → ((((((((not (eqb (getD marks 0 0) 0) || not (eqb (getD marks 1 0) 0)) || not (eqb (getD marks 2 0) 0)) || not (eqb (getD marks 3 0) 0))
+    || not (eqb (getD marks 4 0) 0)) || not (eqb (getD marks 5 0) 0)) || not (eqb (getD marks 6 0) 0)) || not (eqb (getD marks 7 0) 0)))
+    ≡ not (every isNever (take 8 marks))
+unfolding every isNever
+header-columns marks h = simp (or-assoc, not-and, or-false, ← part-is marks 0 8 h)
+
+-- ---- one cell more
+
+fit-cases : (large p q r s : Bool) → (not large && ((not p && r) && (not q && s))) ≡ (not ((large || p) || q) && (r && s))
+fit-cases true p q r s = refl
+fit-cases false true q r s = refl
+fit-cases false false true true s = refl
+fit-cases false false true false s = refl
+fit-cases false false false r s = refl
+
+lawful-cases : (unlawful p z s r : Bool) → (not unlawful && ((not p && (not z || s)) && r)) ≡ (not ((unlawful || p) || (z && not s)) && r)
+lawful-cases true p z s r = refl
+lawful-cases false true z s r = refl
+lawful-cases false false true true r = refl
+lawful-cases false false true false r = refl
+lawful-cases false false false s r = refl
+
+module _ (characters marks : List ℕ) (at : ℕ) (c : at < length characters) (m : at < length marks) where
+  pub fit-more : (large : Bool) → (not large && cellsFit (cellsOf (drop at characters) (drop at marks)))
+      ≡ (not ((large || ltb 3 (getD marks at 0)) || ltb 127 (getD characters at 0)) && cellsFit (cellsOf (drop (at + 1) characters) (drop (at + 1) marks)))
+  unfolding cellsFit every fits
+  fit-more large =
+      rw (add-one at, drop-cons characters at 0 c, drop-cons marks at 0 m, below-is (getD marks at 0) 4, below-is (getD characters at 0) 128)
+      (fit-cases large (ltb 3 (getD marks at 0)) (ltb 127 (getD characters at 0)) (every (fits 2) (drop (suc at) marks)) (every (fits 7) (drop (suc at) characters)))
+
+  pub lawful-more : (unlawful : Bool) → (not unlawful && everyPair cellLawful (drop at marks) (drop at characters))
+      ≡ (not ((unlawful || ltb 2 (getD marks at 0)) || (eqb (getD marks at 0) 0 && not (eqb (getD characters at 0) 32)))
+      && everyPair cellLawful (drop (at + 1) marks) (drop (at + 1) characters))
+  unfolding everyPair cellLawful
+  lawful-more unlawful =
+      rw (add-one at, drop-cons characters at 0 c, drop-cons marks at 0 m, at-most-is (getD marks at 0) 2)
+      (lawful-cases unlawful (ltb 2 (getD marks at 0)) (eqb (getD marks at 0) 0) (eqb (getD characters at 0) 32)
+      (everyPair cellLawful (drop (suc at) marks) (drop (suc at) characters)))
+
+-- ---- none asked yet, and all asked
+
+pub lawful-first : (characters marks : List ℕ) (marked : Bool) → marked ≡ not (every isNever (take 8 marks))
+    → (not marked && everyPair cellLawful marks characters) ≡ cellsLawful (cellsOf characters marks)
+unfolding cellsLawful
+lawful-first characters marks marked e =
+    rw (e, Bool·not-not (every isNever (take 8 marks))) (and-comm (every isNever (take 8 marks)) (everyPair cellLawful marks characters))
+
+module _ (characters marks : List ℕ) (at : ℕ) (c : length characters ≤ at) (m : length marks ≤ at) where
+  pub fit-last : (large rest : Bool) → (not large && cellsFit (cellsOf (drop at characters) (drop at marks))) ≡ rest → rest ≡ not large
+  unfolding cellsFit every
+  fit-last large rest e =
+      sym (sym (and-true (not large))
+      ∙ (rw (drop-of-length-le characters c, drop-of-length-le marks m) at e))
+
+  pub lawful-last : (unlawful rest : Bool) → (not unlawful && everyPair cellLawful (drop at marks) (drop at characters)) ≡ rest → rest ≡ not unlawful
+  unfolding everyPair
+  lawful-last unlawful rest e =
+      sym (sym (and-true (not unlawful))
+      ∙ (rw (drop-of-length-le characters c, drop-of-length-le marks m) at e))
+
+-- ---- what an answer shows
+
+module _ (cells : Cells) where
+  checked : (fit lawful : Bool) → cellsFit cells ≡ fit → cellsLawful cells ≡ lawful → cellsChecked cells ≡ cond fit (cond lawful Lawful Unlawful) TooLarge
+  unfolding cellsChecked
+  checked fit lawful e f = rw (e, f)
+
+  pub answer-large : cellsFit cells ≡ false → cellsChecked cells ≡ TooLarge
+  unfolding cellsChecked
+  answer-large e = rw e
+
+  pub answer-unlawful : cellsFit cells ≡ true → cellsLawful cells ≡ false → cellsChecked cells ≡ Unlawful
+  answer-unlawful e f = checked true false e f
+
+  pub answer-lawful : cellsFit cells ≡ true → cellsLawful cells ≡ true → cellsChecked cells ≡ Lawful
+  answer-lawful e f = checked true true e f
+
+-- cells that fit and are not found lawful are not lawful, and those found lawful are
+pub lawful-shown : (cells : Cells) → cellsFit cells ≡ true → Lawful ≡ cellsChecked cells → cellsLawful cells ≡ true
+lawful-shown cells e a = shown (cellsLawful cells) refl
+  where
+    shown : (lawful : Bool) → cellsLawful cells ≡ lawful → cellsLawful cells ≡ true
+    shown true f = f
+    shown false f = absurd (let z : _≡_ {A = ℕ} 0 1 = cc (answer-unlawful cells e f) in omega arith)
+
+pub unlawful-shown : (cells : Cells) → cellsFit cells ≡ true → (answer : CellsCheck) → answer ≡ cellsChecked cells → (answer ≡ Lawful → ⊥) → cellsLawful cells ≡ false
+unlawful-shown cells e answer a other = shown (cellsLawful cells) refl
+  where
+    shown : (lawful : Bool) → cellsLawful cells ≡ lawful → cellsLawful cells ≡ false
+    shown true f = absurd (other (a ∙ answer-lawful cells e f))
+    shown false f = f

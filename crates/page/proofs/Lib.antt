@@ -1,0 +1,13 @@
+pub mod Answers
+pub mod Checks
+pub mod Groups
+pub mod Heads
+pub mod Loading
+pub mod Papers
+pub mod Reading
+pub mod Rows
+pub mod Splits
+pub mod Storing
+pub mod Trips
+pub mod Unique
+pub mod Writing

@@ -1,0 +1,15 @@
+use borrow.Author.Tests.{eq-eqb, ne-eqb}
+use Rattle.page.specs.Records.{magazineFrom}
+use Rattle.page.proofs.magazine_in.Statement.{statement}
+use Rattle.page.proofs.magazine_in.Tie as tie
+
+returns : tie.Need-returns
+unfolding magazineFrom
+returns c = rw (eq-eqb _ _ (c .if1 .taken))
+
+returns-2 : tie.Need-returns-2
+unfolding magazineFrom
+returns-2 c = rw (ne-eqb _ _ (c .if1 .left))
+
+pub magazine-in-spec : {M : Type 1} → statement M
+magazine-in-spec = tie.close (tie.spec returns returns-2)
