@@ -1,23 +1,20 @@
 -- Statement A: a page that closes clean is the one that was sent. And statement B, which follows: two equal records come from the same page.
 use mathlib.Core.Path.{_≡_, refl, sym, ap, subst, _∙_}
-use mathlib.Core.Bool.{Bool, true, false, not}
-use mathlib.Core.List.{List, _++_}
+use mathlib.Core.Bool.{false, not}
+use mathlib.Core.List.{List}
 use mathlib.Core.Option.{Option, none, some}
-use Prim.Native.Nat.{ℕ, zero, suc, _+_, _-_, _*_, _≤_, _<_}
+use Prim.Native.Nat.{ℕ, _+_, _-_, _*_, _≤_, _<_}
 use native.Mathlib.Decide.{decLt}
 use native.Mathlib.Omega.{arith}
-use lib.Dec.{T, T-not, not-T, eqb, eqb→eq, eqb-refl}
+use lib.Dec.{T, not-T, eqb, eqb→eq}
 use lib.ListN.{length, getD, take, drop, replicate, getD-replicate, length-drop, length-take, length-replicate}
 use lib.Seq.{ext-getD, getD-drop, getD-take, take-at}
 use Rattle.laws.specs.Every.{every}
-use Rattle.laws.proofs.Bools.{passed}
-use Rattle.laws.proofs.Every.{every-at}
 use Rattle.laws.proofs.Keeps.{every-from}
 use Rattle.laws.proofs.Lists.{getD-part, length-part}
 use Rattle.packet.specs.Addresses.{lastRow}
-use Rattle.packet.specs.Sent.{linePacket, sentHeader, sentMagazine, sentRow, sentText}
+use Rattle.packet.specs.Sent.{sentText}
 use Rattle.packet.specs.Texts.{columns, headerColumn}
-use Rattle.packet.specs.declared.Header.{Header}
 use Rattle.page.specs.Lawful.{never}
 use Rattle.page.specs.Reading.{pageRead, readAnswer}
 use Rattle.page.specs.Records.{cellCount, recordLength, recordOf}
@@ -36,8 +33,8 @@ use Rattle.receiver.proofs.Closings.{Clean, clean-closing, length-record}
 use Rattle.receiver.proofs.Marks.{header-columns-never}
 use Rattle.receiver.proofs.Sized.{Sized}
 use Rattle.receiver.proofs.Writes.{page-written}
-use Rattle.demands.specs.Demands.{A, B, ClosesClean, Fed, Follows, Holds, Received, RowHolds, SameSent, recordAfter}
-use Rattle.demands.specs.Runs.{Run, closingOf, entryAt, lastText, receivedAt, rowPart, sentAt}
+use Rattle.demands.specs.Demands.{A, B, ClosesClean, Fed, Follows, Holds, Received, RowHolds, recordAfter}
+use Rattle.demands.specs.Runs.{Run, closingOf, lastText, receivedAt, rowPart, sentAt}
 use Rattle.demands.proofs.Keeping.{Opening, RowIs, is-row, row-is}
 use Rattle.demands.proofs.Through.{Stands, closing-entered, entry-is, lent-entered, lentAt, line-at, outcomeAt, packetAt, receiverAt, standing}
 use Rattle.demands.proofs.Told.{length-sent, whole-sent}

@@ -28,7 +28,7 @@ use Rattle.receiver.proofs.Rows.{Stays, characterAt, header-first, markAt, text
 use Rattle.receiver.proofs.Sized.{Sized}
 use Rattle.receiver.proofs.Changes.{Shown, opening-header, opening-none-fresh, opening-text, storing-header, storing-others, storing-text}
 use Rattle.demands.specs.Demands.{throughout}
-use Rattle.demands.specs.Runs.{Line, Run, entryAt, isRow, kindOf, lastText, lineAt, receivedAt, sentAt}
+use Rattle.demands.specs.Runs.{Line, Run, entryAt, isRow, kindOf, lastText, receivedAt, sentAt}
 use Rattle.demands.proofs.Told.{column-sent, header-sent, length-sent, passes-others, whole-sent}
 
 -- ---- rows as they were sent

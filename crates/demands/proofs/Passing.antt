@@ -1,6 +1,6 @@
 -- Statement C: with at most one wrong bit in each Hamming byte and no wrong character byte, a page opens with its 32 characters and closes clean.
 use mathlib.Core.Path.{_≡_, refl, sym, ap, ap₂, subst, _∙_}
-use mathlib.Core.Bool.{Bool, true, false, _||_}
+use mathlib.Core.Bool.{false, _||_}
 use mathlib.Core.List.{List}
 use Prim.Native.Nat.{ℕ, zero, suc, _≤_, _<_}
 use native.Mathlib.Decide.{decLe, ℕ-discrete}
@@ -8,14 +8,14 @@ use native.Mathlib.Omega.{arith}
 use lib.Dec.{T}
 use lib.ListN.{length}
 use Rattle.laws.proofs.Bools.{passed}
-use Rattle.packet.specs.Addresses.{addressOf, lastRow}
+use Rattle.packet.specs.Addresses.{lastRow}
 use Rattle.packet.specs.Sent.{damage, linePacket, sentByRules, sentHeader, sentMagazine, sentRow}
 use Rattle.packet.specs.Texts.{textOf}
 use Rattle.packet.specs.declared.Address.the-variants.{Whole}
 use Rattle.packet.proofs.Sent.{address-one, header-one, received-packet}
 use Rattle.receiver.specs.Cells.{oneMissing, rowFound}
 use Rattle.receiver.specs.Entries.{closingNumber}
-use Rattle.receiver.specs.Lines.{Outcome, nothing, ourHeader, passed as passedOver, seen, taken, text, headerTaken}
+use Rattle.receiver.specs.Lines.{Outcome, nothing, ourHeader, passed as passedOver, seen, taken, headerTaken}
 use Rattle.receiver.specs.Selections.{matches}
 use Rattle.receiver.specs.declared.Closing.the-variants as closing
 use Rattle.receiver.specs.declared.Receiver.{Receiver}
@@ -26,7 +26,7 @@ use Rattle.receiver.proofs.Effects.{Opens, Stores, seenBy, taken-opens, taken-p
 use Rattle.receiver.proofs.Shows.{sees-header, sees-late, sees-other, sees-text}
 use Rattle.receiver.proofs.Changes.{opening-count, opening-doubt, opening-open, storing-doubt, storing-open}
 use Rattle.demands.specs.Demands.{C, Fed, Follows, Light, Passes, lightly}
-use Rattle.demands.specs.Runs.{Run, characterBytes, closingOf, countOf, entryAt, isRow, kindOf, lineAt, receivedAt, sentAt}
+use Rattle.demands.specs.Runs.{Run, characterBytes, closingOf, countOf, kindOf, lineAt, receivedAt, sentAt}
 use Rattle.demands.proofs.Keeping.{is-row, row-is}
 use Rattle.demands.proofs.Through.{closing-entered, count-entered, entry-is, kind-entered, lentAt, line-within, outcomeAt, receiver-after, receiverAt, standing}
 use Rattle.demands.proofs.Told.{kept-found}

@@ -1,6 +1,5 @@
 -- Through a run: what stands before each of its lines, and what each line gives.
-use mathlib.Core.Path.{_≡_, refl, sym, ap, _∙_}
-use mathlib.Core.Bool.{Bool, true, false}
+use mathlib.Core.Path.{_≡_, refl, ap, _∙_}
 use mathlib.Core.List.{List}
 use Prim.Native.Nat.{ℕ, zero, suc, _≤_, _<_}
 use native.Mathlib.Omega.{arith}
@@ -14,7 +13,6 @@ use Rattle.receiver.specs.Entries.{Entered, closingNumber, entered, lawful, mad
 use Rattle.receiver.specs.Lines.{Outcome, taken}
 use Rattle.receiver.specs.Selections.{inRange}
 use Rattle.receiver.specs.declared.Receiver.{Receiver}
-use Rattle.receiver.specs.declared.Selection.{Selection}
 use Rattle.receiver.proofs.Carried.{taken-selection}
 use Rattle.receiver.proofs.Closings.{length-stays}
 use Rattle.receiver.proofs.Lawful.{new-lawful, taken-lawful}

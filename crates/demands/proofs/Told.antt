@@ -1,28 +1,27 @@
 -- What a line within the damage tells of the line that was sent: its address, whole or in part, its header and its characters.
 use mathlib.Core.Path.{_≡_, refl, sym, ap, subst, _∙_}
-use mathlib.Core.Logic.{_⊎_, inl, inr, ⊎-elim}
-use mathlib.Core.Bool.{Bool, true, false, cond, _&&_}
+use mathlib.Core.Logic.{inl, inr, ⊎-elim}
+use mathlib.Core.Bool.{Bool, true, false}
 use mathlib.Core.List.{List}
 use mathlib.Core.Option.{Option, none, some}
 use Prim.Native.Nat.{ℕ, _+_, _≤_, _<_}
 use native.Mathlib.Decide.{ℕ-discrete}
 use native.Mathlib.Omega.{arith}
 use borrow.Author.Tests.{eq-eqb}
-use lib.Dec.{T, eqb}
+use lib.Dec.{T}
 use lib.ListN.{length, getD, length-map}
 use lib.Seq.{getD-drop}
 use Rattle.coding.specs.Characters.{character}
 use Rattle.coding.specs.Hamming.{message}
 use Rattle.packet.specs.Addresses.{addressOf, lastRow, rowOf, rowWeight1, rowWeights2to16, shown}
 use Rattle.packet.specs.Headers.{headerOf}
-use Rattle.packet.specs.Lines.{packetByte, packetBytes, packetOf}
+use Rattle.packet.specs.Lines.{packetByte, packetBytes}
 use Rattle.packet.specs.Sent.{damage, linePacket, sentByRules, sentFirst, sentHeader, sentMagazine, sentRow, sentSecond, sentText}
 use Rattle.packet.specs.Texts.{columns, textOf}
 use Rattle.packet.specs.declared.Address.{Address}
 use Rattle.packet.specs.declared.Address.the-variants.{Whole, First, Second, Unread, WrongLength}
 use Rattle.packet.specs.declared.Header.{Header}
-use Rattle.packet.specs.declared.HeaderRead.{HeaderRead}
-use Rattle.packet.specs.declared.HeaderRead.the-variants.{Good, Spoiled}
+use Rattle.packet.specs.declared.HeaderRead.the-variants.{Good}
 use Rattle.packet.specs.declared.Text.{Text}
 use Rattle.packet.proofs.Bytes.{length-bytes}
 use Rattle.packet.proofs.Sent.{AsSent, Carries, address-shown, column-kept, column-two, delivered, delivered-packet, first-two, header-carries, header-two, received-packet, second-two, sent-packet, text-carries}

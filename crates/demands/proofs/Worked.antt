@@ -1,8 +1,7 @@
 -- The worked run, computed: A speaks of something. And past each bound, computed too: A would be false there.
 use mathlib.Core.Path.{_≡_, refl}
-use mathlib.Core.Bool.{true, false}
-use mathlib.Core.List.{List}
-use mathlib.Core.Option.{Option, none, some}
+use mathlib.Core.Bool.{false}
+use mathlib.Core.Option.{none, some}
 use Prim.Native.Nat.{ℕ}
 use lib.Dec.{T, lit<, lit≤}
 use lib.ListN.{getD, replicate}
@@ -11,7 +10,7 @@ use Rattle.page.specs.declared.Cells.{Cells}
 use Rattle.receiver.specs.Cells.{fresh}
 use Rattle.receiver.specs.Selections.{inRange}
 use Rattle.demands.specs.Demands.{ClosesClean, Fed, recordAfter}
-use Rattle.demands.specs.Runs.{Run, closingOf, entryAt, kindOf, lastText, rowPart, within}
+use Rattle.demands.specs.Runs.{Run, closingOf, entryAt, lastText, rowPart, within}
 use Rattle.demands.specs.Worked.{lostHeader, threeBits, twoBits, workedRun}
 
 -- ---- within the bounds

@@ -1,7 +1,7 @@
 -- Document 01, "What every promise says", demand 3, in three statements: A, what a page that closes clean holds; B, two equal records come from the
 -- same page; C, a page does close clean. Each is a type, and its proof stands in proofs/.
 use mathlib.Core.Path.{_≡_}
-use mathlib.Core.Bool.{Bool, true, not}
+use mathlib.Core.Bool.{true, not}
 use mathlib.Core.List.{List}
 use mathlib.Core.Option.{Option, none, some}
 use Prim.Native.Nat.{ℕ, _≤_, _<_}
@@ -21,7 +21,7 @@ use Rattle.receiver.specs.Cells.{fresh}
 use Rattle.receiver.specs.Entries.{closingNumber}
 use Rattle.receiver.specs.Selections.{inRange, matches}
 use Rattle.receiver.specs.declared.Closing.the-variants.{Clean}
-use Rattle.demands.specs.Runs.{Line, Run, characterBytes, closingOf, countOf, entryAt, isRow, kindOf, lastText, lineWithin, receivedAt, lineAt, rowPart, sentAt, within}
+use Rattle.demands.specs.Runs.{Line, Run, characterBytes, closingOf, countOf, entryAt, isRow, kindOf, lastText, lineWithin, lineAt, rowPart, sentAt, within}
 
 -- ---- the runs
 
