@@ -13,12 +13,14 @@ ghost use Rattle.page.specs.Records.{cellCount, cellsFrom, cellsOf, char
 ghost use Rattle.page.specs.Writing.{writeAnswer, writePaper, written};
 use packet::Header;
 
+// Rows of a page, columns of a row, and cells of a page.
 pub const ROWS: usize = 24;
 
 pub const COLUMNS: usize = 40;
 
 pub const CELLS: usize = ROWS * COLUMNS;
 
+// Bytes of a record.
 pub const RECORD_LENGTH: usize = 1085;
 
 // The characters of a page, row by row, and their marks: 0 never, 1 older, 2 fresh.
@@ -27,6 +29,7 @@ pub struct Cells {
     pub marks: [u8; CELLS],
 }
 
+// A page: magazine 1 to 8, its header, whether it was received without doubt, and its cells.
 pub struct Page {
     pub magazine: u8,
     pub header: Header,
@@ -34,12 +37,14 @@ pub struct Page {
     pub cells: Cells,
 }
 
+// What a check of cells gives; document 01 calls a cell too large for its bits 24, and an unlawful one 23.
 pub enum CellsCheck {
     Lawful,
     TooLarge,
     Unlawful,
 }
 
+// What writing a page gives; the refusals' numbers are 12, 24, 22 and 23.
 pub enum WriteAnswer {
     Written,
     ShortRecord,
@@ -48,6 +53,7 @@ pub enum WriteAnswer {
     UnlawfulCells,
 }
 
+// What reading a record gives; the refusals' numbers are 20 to 23.
 pub enum ReadAnswer {
     Read,
     WrongLength,
@@ -56,12 +62,13 @@ pub enum ReadAnswer {
     UnlawfulCells,
 }
 
+// The answer, and the page beside it: all zeros beside a refusal.
 pub struct PageRead {
     pub answer: ReadAnswer,
     pub page: Page,
 }
 
-// A page's first five bytes, before its cells.
+// What a record's first five bytes hold, before its cells.
 struct Head {
     magazine: u8,
     header: Header,
@@ -134,7 +141,7 @@ fn all_checked(characters: &[u8], marks: &[u8]) -> CellsCheck
     CellsCheck::Lawful
 }
 
-// Whether cells are lawful: all fit their bits, and then all are lawful.
+// Whether cells are lawful: whether all fit their bits is asked before whether all are lawful.
 pub fn check_cells(characters: &[u8; CELLS], marks: &[u8; CELLS]) -> CellsCheck
     ensures { λ r. ⌜ cellsPaper r ≡ cellsPaper (cellsChecked (cellsOf (now (characters .entry)) (now (marks .entry)))) ⌝ }
 {
@@ -289,6 +296,7 @@ pub fn write_record(page: Page, record: &mut [u8]) -> WriteAnswer
     WriteAnswer::Written
 }
 
+// The magazine of a record's first three bits: 0 is 8.
 fn magazine_in(value: u8) -> u8
     ensures { λ r. ⌜ r ≡ magazineFrom value ⌝ }
 {
@@ -317,6 +325,7 @@ fn head_in(bytes: [u8; 5]) -> Head
     }
 }
 
+// A byte as the control bits' type.
 fn wide(byte: u8) -> u16
     ensures { λ r. ⌜ r ≡ byte ⌝ }
 {

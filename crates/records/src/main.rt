@@ -1,11 +1,9 @@
 // Writes and reads page records. For each page of the file `written` it prints the writer's number and then the whole lent buffer; for each record of
 // the file `read` the reader's number, and where it is read its parts, its marked cells, and whether writing it again gives the same bytes.
-ghost use Prim.Native.Nat.{_<_};
 use libc::STDOUT_FILENO;
 use packet::Header;
 use page::Cells;
 use page::Page;
-use page::PageRead;
 use page::ReadAnswer;
 use page::WriteAnswer;
 
@@ -25,10 +23,18 @@ fn number(n: u64) {
     io::print_decimal(STDOUT_FILENO, n);
 }
 
+fn space() {
+    text(b" ");
+}
+
+fn end_line() {
+    text(b"\n");
+}
+
 // A number, and a space after it.
 fn item(n: u8) {
     number(n as u64);
-    text(b" ");
+    space();
 }
 
 fn double(high: u8, low: u8) -> u16 {
@@ -54,7 +60,7 @@ fn print_hex(bytes: &[u8]) {
         text(&digits);
         at += 1;
     }
-    text(b"\n");
+    end_line();
 }
 
 fn write_number(answer: WriteAnswer) -> u64 {
@@ -112,6 +118,23 @@ fn page_of(form: &[u8; PAGE_FORM]) -> Page {
     }
 }
 
+// The page's record into the first so many bytes of a buffer.
+fn write_into(page: Page, buffer: &mut [u8], length: usize) -> u64 {
+    if length <= buffer.len() {
+        return write_number(page::write_record(page, &mut buffer[..length]));
+    }
+    99
+}
+
+fn print_written(page: Page, length: usize) {
+    let mut buffer = [170u8; LENT];
+    let refusal = write_into(page, &mut buffer, length);
+    text(b"written ");
+    number(refusal);
+    end_line();
+    print_hex(&buffer);
+}
+
 // One page of `written`; false at the end.
 fn write_one(fd: i32) -> bool {
     let mut form = [0u8; PAGE_FORM];
@@ -120,17 +143,16 @@ fn write_one(fd: i32) -> bool {
         return false;
     }
     let length = double(form[10], form[11]) as usize;
-    if length > LENT {
-        return false;
-    }
-    let page = page_of(&form);
-    let mut lent = [170u8; LENT];
-    let answer = page::write_record(page, &mut lent[..length]);
-    text(b"written ");
-    number(write_number(answer));
-    text(b"\n");
-    print_hex(&lent);
+    print_written(page_of(&form), length);
     true
+}
+
+fn print_cell(place: usize, mark: u8, character: u8) {
+    number(place as u64);
+    space();
+    item(mark);
+    number(character as u64);
+    end_line();
 }
 
 // A page's cells that are marked: place, mark, character.
@@ -139,20 +161,15 @@ fn print_cells(characters: &[u8], marks: &[u8]) {
     while at < marks.len() {
         if at < characters.len() {
             if marks[at] != 0 {
-                number(at as u64);
-                text(b" ");
-                item(marks[at]);
-                number(characters[at] as u64);
-                text(b"\n");
+                print_cell(at, marks[at], characters[at]);
             }
         }
         at += 1;
     }
 }
 
-fn print_page(page: Page) {
-    let header = page.header;
-    item(page.magazine);
+fn print_head(magazine: u8, header: Header, clean: bool) {
+    item(magazine);
     item(header.tens);
     item(header.units);
     item(header.hours_tens);
@@ -160,13 +177,22 @@ fn print_page(page: Page) {
     item(header.minutes_tens);
     item(header.minutes_units);
     number(header.control as u64);
-    text(b" ");
-    number(page.clean as u64);
-    text(b"\n");
-    let cells = page.cells;
+    space();
+    number(clean as u64);
+    end_line();
+}
+
+fn print_marked(cells: Cells) {
     let characters = cells.characters;
     let marks = cells.marks;
     print_cells(&characters, &marks);
+}
+
+fn print_page(page: Page) {
+    let header = page.header;
+    print_head(page.magazine, header, page.clean);
+    let cells = page.cells;
+    print_marked(cells);
 }
 
 // Whether a page that was read is written as the bytes that it was read from.
@@ -189,7 +215,7 @@ fn print_read(record: &[u8]) {
     let refusal = read_number(answer);
     text(b"read ");
     number(refusal);
-    text(b"\n");
+    end_line();
     if refusal == 0 {
         print_page(page);
         print_again(page, record);

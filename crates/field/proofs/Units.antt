@@ -1,0 +1,203 @@
+-- What stands at a place, by the tests: which case of `here` holds, and what each case shows.
+use mathlib.Core.Path.{_≡_, refl, sym, ap}
+use mathlib.Core.Logic.{_⊎_, inl, inr}
+use mathlib.Core.Bool.{Bool, true, false, cond, not, _&&_, _||_}
+use mathlib.Core.List.{List, []}
+use mathlib.Core.Option.{Option, none, some}
+use Prim.Native.Nat.{ℕ, zero, suc, _+_, _<_, _≤_}
+use native.Mathlib.Omega.{arith}
+use borrow.Author.Tests.{eq-eqb, ne-eqb, lt-ltb, le-ltb, lt-leb, ltb-false, eqb-true, eqb-false, not-false}
+use lib.Dec.{eqb}
+use lib.ListN.{length}
+use Rattle.laws.specs.Paper.{Paper, accepted, refusedBy}
+use Rattle.field.specs.Field.{identifier, low, high, known, noField, idAt, lengthAt, afterAt, teletextId, short, wrongLength, the-end, a-unit, refused, here, Way, leave, goOn, asked, pastField, start, unitOn, unitAt}
+
+-- what two cases come to that can't both hold
+pub never : _≡_ {A = ℕ} 0 1 → ⊥
+never e = omega arith
+
+-- equal answers have as many values
+pub counts : {a b : Paper} → a ≡ b → length (a .values) ≡ length (b .values)
+counts e = ap (λ (answer : Paper). length (answer .values)) e
+
+-- two tests, of which neither passed
+pub neither : (a b : Bool) → (a || b) ≡ false → (a ≡ false) × (b ≡ false)
+neither true b e = absurd (never (cc))
+neither false b e = (refl, e)
+
+module _ (field : List ℕ) (place : ℕ) where
+  pub end-here : place ≡ length field → here field place ≡ the-end
+  unfolding here
+  end-here e = rw (eq-eqb place (length field) e)
+
+  module _ (before : place < length field) where
+    inside : eqb place (length field) ≡ false
+    inside = ne-eqb place (length field) (λ e. omega arith)
+
+    pub short-here : length field < afterAt field place → here field place ≡ refused 15
+    unfolding here
+    short-here past = simp (inside, lt-ltb (length field) (afterAt field place) past)
+
+    module _ (whole : afterAt field place ≤ length field) where
+      not-short : short field place ≡ false
+      unfolding short
+      not-short = simp (le-ltb (length field) (afterAt field place) whole, lt-leb (length field) (place + 1) (omega arith))
+
+      pub wrong-here : wrongLength (identifier field) (idAt field place) (lengthAt field place) ≡ true → here field place ≡ refused 16
+      unfolding here
+      wrong-here w = simp (inside, not-short, w)
+
+      pub unit-here : wrongLength (identifier field) (idAt field place) (lengthAt field place) ≡ false → here field place ≡ a-unit
+      unfolding here
+      unit-here w = simp (inside, not-short, w)
+
+-- ---- from a place asked
+
+pub unit-from : (field : List ℕ) (place : ℕ) {way : Way} → way ≡ start field place → unitOn field way ≡ unitAt field place
+unfolding unitAt
+unit-from field place e = ap (unitOn field) e
+
+on-goes : (a b : Bool) (p q : Paper) (x first : ℕ) → cond a (leave p) (cond b (leave q) (goOn x)) ≡ goOn first → (a ≡ false) × (b ≡ false) × (x ≡ first)
+on-goes true b p q x first e = absurd (never (cc))
+on-goes false true p q x first e = absurd (never (cc))
+on-goes false false p q x first e = (refl, refl, cc)
+
+not-empty : (field : List ℕ) → noField field ≡ false → 0 < length field
+unfolding noField
+not-empty field e =
+    let positive = eqb-false (length field) 0 (neither (eqb (length field) 0) (not (known (identifier field))) e .0) in
+    omega arith
+
+asked-inside : (place bound : ℕ) → 0 < bound → place ≤ bound → (0 < asked place) × (asked place ≤ bound)
+unfolding asked
+asked-inside zero bound positive inside = (omega arith, omega arith)
+asked-inside (suc place) bound positive inside = rw (ne-eqb (suc place) 0 (λ e. omega arith)) (omega arith, omega arith)
+
+-- where a walk starts
+pub record Begins (field : List ℕ) (first : ℕ) : Type 0 where
+  pub identified : noField field ≡ false
+  pub behind : 0 < first
+  pub within : first ≤ length field
+
+begun : (field : List ℕ) (place first : ℕ) → (noField field ≡ false) × (pastField field place ≡ false) × (asked place ≡ first) → Begins field first
+unfolding pastField
+begun field place first (known-is, not-past, e) =
+    let there = asked-inside place (length field) (not-empty field known-is) (ltb-false (length field) place not-past) in
+    record { identified = known-is; behind = omega arith; within = omega arith }
+
+on-start : (field : List ℕ) (place first : ℕ) → start field place ≡ goOn first → (noField field ≡ false) × (pastField field place ≡ false) × (asked place ≡ first)
+unfolding start
+on-start field place first e = on-goes _ _ _ _ _ _ e
+
+pub begins : (field : List ℕ) (place first : ℕ) → start field place ≡ goOn first → Begins field first
+begins field place first e = begun field place first (on-start field place first e)
+
+pub begins-at : (field : List ℕ) (place first : ℕ) → start field place ≡ goOn first → asked place ≡ first
+begins-at field place first e = on-start field place first e .2
+
+pub asked-behind : (place : ℕ) → 0 < place → asked place ≡ place
+unfolding asked
+asked-behind place behind = rw (ne-eqb place 0 (λ e. omega arith))
+
+picks : (a b : Bool) (p q : Paper) (x y : ℕ) → a ≡ false → b ≡ false → x ≡ y → cond a (leave p) (cond b (leave q) (goOn x)) ≡ goOn y
+picks a b p q x y e f g = rw (e, f, g)
+
+not-past-field : (field : List ℕ) (place : ℕ) → place ≤ length field → pastField field place ≡ false
+unfolding pastField
+not-past-field field place within = le-ltb (length field) place within
+
+-- a place behind the identifier and within the field is its own start
+pub starts : (field : List ℕ) (place : ℕ) → Begins field place → start field place ≡ goOn place
+unfolding start
+starts field place begin =
+    picks (noField field) (pastField field place) _ _ (asked place) place
+    (begin .identified) (not-past-field field place (begin .within)) (asked-behind place (begin .behind))
+
+-- a search that does not start is refused by 14 or by 17
+abbrev pub Refused-first : Paper → Type 0
+Refused-first answer = (refusedBy 14 [] ≡ answer) ⊎ (refusedBy 17 [] ≡ answer)
+
+left-first : (a b : Bool) (p q : Paper) (x : ℕ) (answer : Paper) → cond a (leave p) (cond b (leave q) (goOn x)) ≡ leave answer → (p ≡ answer) ⊎ (q ≡ answer)
+left-first true b p q x answer e = inl (cc)
+left-first false true p q x answer e = inr (cc)
+left-first false false p q x answer e = absurd (never (cc))
+
+pub start-refused : (field : List ℕ) (place : ℕ) (answer : Paper) → start field place ≡ leave answer → Refused-first answer
+unfolding start
+start-refused field place answer e = left-first (noField field) (pastField field place) (refusedBy 14 []) (refusedBy 17 []) (asked place) answer e
+
+-- 14 and 17 have no value
+no-value : (answer : Paper) → Refused-first answer → length (answer .values) ≡ 0
+unfolding refusedBy
+no-value answer (inl e) = sym (counts e)
+no-value answer (inr e) = sym (counts e)
+
+pub start-plain : (field : List ℕ) (place : ℕ) (answer : Paper) → start field place ≡ leave answer → length (answer .values) ≡ 0
+start-plain field place answer e = no-value answer (start-refused field place answer e)
+
+pub valued-goes : (answer : Paper) → 0 < length (answer .values) → Refused-first answer → ⊥
+valued-goes answer valued r = let none = no-value answer r in omega arith
+
+-- nor are they accepted
+numbered : Option ℕ → ℕ
+numbered none = 0
+numbered (some n) = n
+
+pub accepted-goes : (values : List ℕ) → Refused-first (accepted values) → ⊥
+unfolding refusedBy accepted numbered
+accepted-goes values (inl e) = let n : _≡_ {A = ℕ} 14 0 = ap (λ (p : Paper). numbered (p .number)) e in omega arith
+accepted-goes values (inr e) = let n : _≡_ {A = ℕ} 17 0 = ap (λ (p : Paper). numbered (p .number)) e in omega arith
+
+-- ---- what a unit shows
+
+-- a whole unit, with a length that its identifier and id allow
+pub record IsUnit (field : List ℕ) (place : ℕ) : Type 0 where
+  pub whole : afterAt field place ≤ length field
+  pub allowed : wrongLength (identifier field) (idAt field place) (lengthAt field place) ≡ false
+
+here-picks : (e s w : Bool) → cond e the-end (cond s (refused 15) (cond w (refused 16) a-unit)) ≡ a-unit → (s ≡ false) × (w ≡ false)
+here-picks true s w q = absurd (never (cc))
+here-picks false true w q = absurd (never (cc))
+here-picks false false true q = absurd (never (cc))
+here-picks false false false q = (refl, refl)
+
+end-picks : (e s w : Bool) → cond e the-end (cond s (refused 15) (cond w (refused 16) a-unit)) ≡ the-end → e ≡ true
+end-picks true s w q = refl
+end-picks false true w q = absurd (never (cc))
+end-picks false false true q = absurd (never (cc))
+end-picks false false false q = absurd (never (cc))
+
+pub is-end : (field : List ℕ) (place : ℕ) → here field place ≡ the-end → place ≡ length field
+unfolding here
+is-end field place e =
+    eqb-true place (length field)
+    (end-picks (eqb place (length field)) (short field place) (wrongLength (identifier field) (idAt field place) (lengthAt field place)) e)
+
+not-past : (field : List ℕ) (place : ℕ) → short field place ≡ false → afterAt field place ≤ length field
+unfolding short
+not-past field place e = ltb-false (length field) (afterAt field place) (neither _ _ e .0)
+
+pub is-unit : (field : List ℕ) (place : ℕ) → here field place ≡ a-unit → IsUnit field place
+unfolding here
+is-unit field place e =
+    let picked = here-picks (eqb place (length field)) (short field place) (wrongLength (identifier field) (idAt field place) (lengthAt field place)) e in
+    record { whole = not-past field place (picked .0); allowed = picked .1 }
+
+is-known : (field : List ℕ) → noField field ≡ false → known (identifier field) ≡ true
+unfolding noField
+is-known field e = not-false (known (identifier field)) (neither (eqb (length field) 0) (not (known (identifier field))) e .1)
+
+fixed-length : (l h t c e : Bool) → (l || h) ≡ true → t ≡ true → ((l || h && (t || c)) && not e) ≡ false → e ≡ true
+fixed-length true h t c e k u w = not-false e w
+fixed-length false true true c e k u w = not-false e w
+fixed-length false true false c e k u w = absurd (never (cc))
+fixed-length false false t c e k u w = absurd (never (cc))
+
+right-length : (byte id size : ℕ) → known byte ≡ true → teletextId id ≡ true → wrongLength byte id size ≡ false → size ≡ 44
+unfolding known wrongLength
+right-length byte id size k t w = eqb-true size 44 (fixed-length (low byte) (high byte) (teletextId id) (eqb id 0xC0) (eqb size 44) k t w)
+
+-- a unit of a teletext id has 44 bytes
+pub teletext-length : (field : List ℕ) (place : ℕ) → noField field ≡ false → IsUnit field place → teletextId (idAt field place) ≡ true
+    → lengthAt field place ≡ 44
+teletext-length field place k u t = right-length (identifier field) (idAt field place) (lengthAt field place) (is-known field k) t (u .allowed)

@@ -1,0 +1,227 @@
+// A data field: the unit at a place, of any id, and the search for a teletext unit. Bytes are read as they stand, and places count from the
+// field's start, where the identifier stands.
+ghost use mathlib.Core.Bool.{false};
+ghost use mathlib.Core.Path.{_≡_};
+ghost use Prim.Native.Nat.{_+_, _≤_};
+ghost use lib.ListN.{length};
+ghost use Rattle.field.specs.Field.{low, high, known, noField, lengthAt, teletextId, wrongLength, here, start, unitAnswer, unitAt, anyUnitPaper};
+ghost use Rattle.field.specs.Search.{offsetPasses, linePasses, step, searched, foundPaper};
+ghost use Rattle.field.specs.Private.{firstWay, lookWay, lineStep};
+
+// What stands at a place: a whole unit with its id, its length and the place after it, or the end of the field, or a refusal.
+pub enum AnyUnit {
+    Whole { id: u8, length: u8, after: usize },
+    End,
+    // 14
+    NoField,
+    // 17
+    PastField,
+    // 15, with the unit's place
+    Short(usize),
+    // 16, with the unit's place
+    WrongLength(usize),
+}
+
+// What a search comes to: a packet, with its place, its field parity, its line offset and the place after its unit, or the end, or a refusal.
+pub enum Found {
+    Packet {
+        packet: usize,
+        parity: u8,
+        offset: u8,
+        after: usize,
+    },
+    NoMore,
+    // 14
+    NoField,
+    // 17
+    PastField,
+    // 15, with the unit's place
+    Short(usize),
+    // 16, with the unit's place
+    WrongLength(usize),
+}
+
+// Where a walk starts, or why it does not.
+enum First {
+    At(usize),
+    NoField,
+    PastField,
+}
+
+// What is made of one unit of a walk.
+enum Look {
+    Leave(Found),
+    GoOn(usize),
+}
+
+// The length of every unit under the identifiers 10 to 1F, and of every teletext unit.
+const LENGTH: u8 = 44;
+
+fn is_low(identifier: u8) -> bool
+    ensures { λ r. ⌜ r ≡ low identifier ⌝ }
+{
+    (identifier >= 0x10) & (identifier <= 0x1F)
+}
+
+fn is_high(identifier: u8) -> bool
+    ensures { λ r. ⌜ r ≡ high identifier ⌝ }
+{
+    (identifier >= 0x99) & (identifier <= 0x9B)
+}
+
+fn is_known(identifier: u8) -> bool
+    ensures { λ r. ⌜ r ≡ known identifier ⌝ }
+{
+    is_low(identifier) | is_high(identifier)
+}
+
+fn is_teletext(id: u8) -> bool
+    ensures { λ r. ⌜ r ≡ teletextId id ⌝ }
+{
+    (id == 0x02) | (id == 0x03)
+}
+
+fn offset_passes(offset: u8) -> bool
+    ensures { λ r. ⌜ r ≡ offsetPasses offset ⌝ }
+{
+    (offset == 0) | (offset >= 7) & (offset <= 22)
+}
+
+fn is_wrong_length(identifier: u8, id: u8, length: u8) -> bool
+    ensures { λ r. ⌜ r ≡ wrongLength identifier id length ⌝ }
+{
+    (is_low(identifier) | is_high(identifier) & (is_teletext(id) | (id == 0xC0)))
+        & (length != LENGTH)
+}
+
+// 14, then 17, and place 0 as the first unit's.
+fn entry(field: &[u8], place: usize) -> First
+    ensures { λ r. ⌜ firstWay r ≡ start (now (field .entry)) place ⌝ }
+{
+    if field.len() == 0 {
+        return First::NoField;
+    }
+    if !is_known(field[0]) {
+        return First::NoField;
+    }
+    if place > field.len() {
+        return First::PastField;
+    }
+    if place == 0 {
+        return First::At(1);
+    }
+    First::At(place)
+}
+
+// The length byte of a unit, or 0 where it is missing: with id and length byte the unit then runs past the field all the same.
+fn length_at(field: &[u8], place: usize) -> u8
+    requires { ⌜ place ≤ length (now field) ⌝ }
+    ensures { λ r. ⌜ r ≡ lengthAt (now (field .entry)) place ⌝ }
+{
+    if field.len() - place > 1 {
+        return field[place + 1];
+    }
+    0
+}
+
+// The unit at a place of the field or at its end: 15, then 16. It is what is left of the field that is compared, so that no sum can wrap.
+fn unit_here(field: &[u8], place: usize) -> AnyUnit
+    requires { ⌜ place ≤ length (now field) ⌝ }
+    ensures { λ r. ⌜ anyUnitPaper r ≡ unitAnswer (now (field .entry)) place (here (now (field .entry)) place) ⌝ }
+{
+    let left = field.len() - place;
+    if left == 0 {
+        return AnyUnit::End;
+    }
+    let id = field[place];
+    let length = length_at(field, place);
+    let bytes = length as usize + 2;
+    if left < bytes {
+        return AnyUnit::Short(place);
+    }
+    if is_wrong_length(field[0], id, length) {
+        return AnyUnit::WrongLength(place);
+    }
+    let after = place + bytes;
+    AnyUnit::Whole { id, length, after }
+}
+
+// The unit at a place, of any id.
+pub fn unit_at(field: &[u8], place: usize) -> AnyUnit
+    ensures { λ r. ⌜ anyUnitPaper r ≡ unitAt (now (field .entry)) place ⌝ }
+{
+    match entry(field, place) {
+        First::At(first) => unit_here(field, first),
+        First::NoField => AnyUnit::NoField,
+        First::PastField => AnyUnit::PastField,
+    }
+}
+
+// Whether the offset and the framing code of a whole teletext unit pass.
+fn line_passes(field: &[u8], place: usize) -> bool
+    requires { ⌜ place + 46 ≤ length (now field) ⌝ }
+    ensures { λ r. ⌜ r ≡ linePasses (now (field .entry)) place ⌝ }
+{
+    offset_passes(field[place + 2] % 32) & coding::framing_passes(field[place + 3])
+}
+
+// A whole unit of a teletext id: its packet, or the next place where its line does not pass.
+fn look_at_line(field: &[u8], place: usize, next: usize) -> Look
+    requires { ⌜ place + 46 ≤ length (now field) ⌝ }
+    ensures { λ r. ⌜ lookWay r ≡ lineStep (now (field .entry)) place next ⌝ }
+{
+    if !line_passes(field, place) {
+        return Look::GoOn(next);
+    }
+    let line = field[place + 2];
+    let packet = place + 4;
+    let found = Found::Packet {
+        packet,
+        parity: line / 32 % 2,
+        offset: line % 32,
+        after: next,
+    };
+    Look::Leave(found)
+}
+
+// One unit of a walk.
+fn look_at(field: &[u8], place: usize) -> Look
+    requires { ⌜ (place ≤ length (now field)) × (noField (now field) ≡ false) ⌝ }
+    ensures { λ r. ⌜ lookWay r ≡ step (now (field .entry)) place ⌝ }
+{
+    match unit_here(field, place) {
+        AnyUnit::Whole {
+            id,
+            length: _,
+            after,
+        } => {
+            if is_teletext(id) {
+                look_at_line(field, place, after)
+            } else {
+                Look::GoOn(after)
+            }
+        }
+        AnyUnit::End => Look::Leave(Found::NoMore),
+        AnyUnit::NoField => Look::Leave(Found::NoField),
+        AnyUnit::PastField => Look::Leave(Found::PastField),
+        AnyUnit::Short(at) => Look::Leave(Found::Short(at)),
+        AnyUnit::WrongLength(at) => Look::Leave(Found::WrongLength(at)),
+    }
+}
+
+// The first teletext unit from a place on.
+pub fn search(field: &[u8], place: usize) -> Found
+    ensures { λ r. ⌜ foundPaper r ≡ searched (now (field .entry)) place ⌝ }
+{
+    let mut at = match entry(field, place) {
+        First::At(first) => first,
+        First::NoField => return Found::NoField,
+        First::PastField => return Found::PastField,
+    };
+    loop {
+        match look_at(field, at) {
+            Look::Leave(found) => break found,
+            Look::GoOn(after) => at = after,
+        }
+    }
+}

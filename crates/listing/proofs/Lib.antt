@@ -1,0 +1,6 @@
+pub mod Answers
+pub mod Cases
+pub mod Decimal
+pub mod Held
+pub mod Listing
+pub mod Unique
