@@ -1,0 +1,6 @@
+pub mod Closings
+pub mod Keeping
+pub mod Passing
+pub mod Through
+pub mod Told
+pub mod Worked

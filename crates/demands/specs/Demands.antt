@@ -1,0 +1,126 @@
+-- Document 01, "What every promise says", demand 3, in three statements: A, what a page that closes clean holds; B, two equal records come from the
+-- same page; C, a page does close clean. Each is a type, and its proof stands in proofs/.
+use mathlib.Core.Path.{_≡_}
+use mathlib.Core.Bool.{true, not}
+use mathlib.Core.List.{List}
+use mathlib.Core.Option.{Option, none, some}
+use Prim.Native.Nat.{ℕ, _≤_, _<_}
+use lib.Dec.{T, eqb}
+use lib.ListN.{length, take, drop, replicate}
+use Rattle.laws.specs.Every.{every}
+use Rattle.packet.specs.Addresses.{lastRow}
+use Rattle.packet.specs.Sent.{sentMagazine, sentRow, sentHeader, sentText}
+use Rattle.packet.specs.Texts.{columns, headerColumn}
+use Rattle.page.specs.Lawful.{never}
+use Rattle.page.specs.Reading.{pageRead, readAnswer}
+use Rattle.page.specs.Records.{recordLength}
+use Rattle.page.specs.declared.Cells.{Cells}
+use Rattle.page.specs.declared.Page.{Page}
+use Rattle.page.specs.declared.ReadAnswer.the-variants.{Read}
+use Rattle.receiver.specs.Cells.{fresh}
+use Rattle.receiver.specs.Entries.{closingNumber}
+use Rattle.receiver.specs.Selections.{inRange, matches}
+use Rattle.receiver.specs.declared.Closing.the-variants.{Clean}
+use Rattle.demands.specs.Runs.{Line, Run, characterBytes, closingOf, countOf, entryAt, isRow, kindOf, lastText, lineWithin, lineAt, rowPart, sentAt, within}
+
+-- ---- the runs
+
+-- at most so many wrong bits in each Hamming byte, throughout
+abbrev pub throughout : ℕ
+throughout = 2
+
+-- and from a header to the next, where a page is to close clean
+abbrev pub lightly : ℕ
+lightly = 1
+
+-- a lawful selection, a lent record that is long enough, and any lines within the damage
+pub record Fed (run : Run) : Type 0 where
+  pub range : T (inRange (run .selection))
+  pub room : recordLength ≤ length (run .lent)
+  pub damaged : T (within throughout (run .lines))
+
+-- the answer at line j closes clean
+pub record ClosesClean (run : Run) (j : ℕ) : Type 0 where
+  pub line : j < length (run .lines)
+  pub word : closingOf (entryAt run j) ≡ closingNumber Clean
+
+-- line i is a row 0 of the selected magazine, and line j is the first one sent after it
+pub record Follows (run : Run) (i j : ℕ) : Type 0 where
+  pub header : T (isRow (run .selection .magazine) 0 (sentAt (run .lines) i))
+  pub next : T (isRow (run .selection .magazine) 0 (sentAt (run .lines) j))
+  pub before : i < j
+  pub none-between : (k : ℕ) → i < k → k < j → ¬ T (isRow (run .selection .magazine) 0 (sentAt (run .lines) k))
+
+-- ---- A
+
+-- a row: where the magazine sent it, its cells are the last text, all fresh; where not, no cell of it is fresh
+abbrev pub RowHolds : Cells → ℕ → Option (List ℕ) → Type 0
+RowHolds cells row (some text) = (rowPart row (cells .characters) ≡ text) × (rowPart row (cells .marks) ≡ replicate columns fresh)
+RowHolds cells row none = T (every (λ (mark : ℕ). not (eqb mark fresh)) (rowPart row (cells .marks)))
+
+-- the page is what was sent from line i on and before line j
+pub record Holds (run : Run) (i j : ℕ) (page : Page) : Type 0 where
+  pub magazine : page .magazine ≡ sentMagazine (sentAt (run .lines) i)
+  pub header : page .header ≡ sentHeader (sentAt (run .lines) i)
+  pub clean : page .clean ≡ true
+  pub header-text : drop headerColumn (rowPart 0 (page .cells .characters)) ≡ drop headerColumn (sentText (sentAt (run .lines) i))
+  pub header-fresh : drop headerColumn (rowPart 0 (page .cells .marks)) ≡ drop headerColumn (replicate columns fresh)
+  pub header-never : take headerColumn (rowPart 0 (page .cells .marks)) ≡ replicate headerColumn never
+  pub rows : (row : ℕ) → 1 ≤ row → row ≤ lastRow → RowHolds (page .cells) row (lastText (run .selection .magazine) row (run .lines) i j)
+
+-- the first 1,085 bytes of the lent record as it stands after line j
+abbrev pub recordAfter : Run → ℕ → List ℕ
+recordAfter run j = take recordLength (entryAt run j .lent)
+
+-- line i opened the page that line j closed, and the record reads back to it
+pub record Received (run : Run) (j i : ℕ) : Type 0 where
+  pub follows : Follows run i j
+  pub matched : T (matches (run .selection) (sentHeader (sentAt (run .lines) i)))
+  pub kind : kindOf (entryAt run i) ≡ 2
+  pub reads : readAnswer (recordAfter run j) ≡ Read
+  pub holds : Holds run i j (pageRead (recordAfter run j))
+
+abbrev pub ExactlyOne : (ℕ → Type 0) → Type 0
+ExactlyOne P = (i : ℕ) × P i × ((k : ℕ) → P k → k ≡ i)
+
+abbrev pub A : Type 0
+A = (run : Run) → Fed run → (j : ℕ) → ClosesClean run j → ExactlyOne (Received run j)
+
+-- ---- B
+
+-- what two receivers were sent, the first from line i to line j, the second from line k to line l
+pub record SameSent (run other : Run) (i j k l : ℕ) : Type 0 where
+  pub magazine : sentMagazine (sentAt (run .lines) i) ≡ sentMagazine (sentAt (other .lines) k)
+  pub header : sentHeader (sentAt (run .lines) i) ≡ sentHeader (sentAt (other .lines) k)
+  pub header-text : drop headerColumn (sentText (sentAt (run .lines) i)) ≡ drop headerColumn (sentText (sentAt (other .lines) k))
+  pub rows : (row : ℕ) → 1 ≤ row → row ≤ lastRow
+      → lastText (run .selection .magazine) row (run .lines) i j ≡ lastText (other .selection .magazine) row (other .lines) k l
+
+abbrev pub B : Type 0
+B =
+    (run other : Run) → Fed run → Fed other → (i j k l : ℕ) → ClosesClean run j → ClosesClean other l
+    → Follows run i j → Follows other k l → recordAfter run j ≡ recordAfter other l → SameSent run other i j k l
+
+-- ---- C
+
+-- no character byte is wrong; which they are goes by the line as sent
+abbrev pub TextKept : Line → Type 0
+TextKept line = characterBytes (sentRow (line .sent)) (line .received) ≡ characterBytes (sentRow (line .sent)) (line .sent)
+
+-- from line i to line j at most one wrong bit in each Hamming byte, and no character byte of the header and of the magazine's rows is wrong
+pub record Light (run : Run) (i j : ℕ) : Type 0 where
+  pub single : (k : ℕ) → i ≤ k → k ≤ j → T (lineWithin lightly (lineAt (run .lines) k))
+  pub header-kept : TextKept (lineAt (run .lines) i)
+  pub rows-kept : (row k : ℕ) → 1 ≤ row → row ≤ lastRow → i < k → k < j → T (isRow (run .selection .magazine) row (sentAt (run .lines) k))
+      → TextKept (lineAt (run .lines) k)
+
+-- the page opens with all its 32 characters, and closes clean
+pub record Passes (run : Run) (i j : ℕ) : Type 0 where
+  pub kind : kindOf (entryAt run i) ≡ 2
+  pub count : countOf (entryAt run i) ≡ 32
+  pub word : closingOf (entryAt run j) ≡ closingNumber Clean
+
+abbrev pub C : Type 0
+C =
+    (run : Run) → Fed run → (i j : ℕ) → j < length (run .lines) → T (matches (run .selection) (sentHeader (sentAt (run .lines) i)))
+    → Follows run i j → Light run i j → Passes run i j
