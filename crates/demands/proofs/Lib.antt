@@ -1,5 +1,6 @@
 pub mod Closings
 pub mod Keeping
+pub mod Marked
 pub mod Passing
 pub mod Through
 pub mod Told

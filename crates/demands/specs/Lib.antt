@@ -1,3 +1,4 @@
 pub mod Demands
+pub mod Marked
 pub mod Runs
 pub mod Worked
