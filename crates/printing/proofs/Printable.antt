@@ -1,8 +1,8 @@
 -- Every byte of a printed row is a character that can be printed, 20 to 7E: what is held is always a mosaic, and letters are of 20 to 7F.
-use mathlib.Core.Path.{_≡_, refl, sym, _∙_, ap, subst}
+use mathlib.Core.Path.{_≡_, refl, sym, _∙_, subst}
 use mathlib.Core.Bool.{Bool, true, false, cond, _&&_}
 use mathlib.Core.List.{List, [], _∷_, map}
-use Prim.Native.Nat.{ℕ, _<_, _≤_}
+use Prim.Native.Nat.{ℕ, _≤_}
 use native.Mathlib.Omega.{arith}
 use borrow.Author.Tests.{leb-true, ltb-false, eqb-false}
 use lib.Dec.{eqb, leb, ltb, lit≤}
