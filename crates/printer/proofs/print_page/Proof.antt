@@ -1,5 +1,5 @@
 -- `printer::print_page` meets its contract. The loop's invariant: each row so far was printed as 41 bytes of the output.
-use mathlib.Core.Path.{_≡_, refl, sym, _∙_, ap}
+use mathlib.Core.Path.{_≡_, ap}
 use Prim.Native.Nat.{ℕ, _+_, _*_, _-_, _≤_}
 use native.Mathlib.Omega.{arith}
 use borrow.Author.Needs.{needs}

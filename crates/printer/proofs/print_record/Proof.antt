@@ -1,5 +1,5 @@
 -- `printer::print_record` meets its contract: by the reader's answer, the page or one line.
-use mathlib.Core.Path.{_≡_, refl, sym, _∙_, ap}
+use mathlib.Core.Path.{_≡_, sym, _∙_, ap}
 use mathlib.Core.List.{List}
 use Prim.Native.Nat.{ℕ}
 use lib.ListN.{length, take, drop}
@@ -8,7 +8,7 @@ use Rattle.page.specs.Reading.{readPaper, pageRead}
 use Rattle.page.specs.declared.Page.{Page}
 use Rattle.page.specs.declared.ReadAnswer.{ReadAnswer}
 use Rattle.printing.specs.Pages.{pageText}
-use Rattle.printer.specs.Output.{refusedText, outputOf, output}
+use Rattle.printer.specs.Output.{outputOf, output}
 use Rattle.printer.proofs.Parts.{output-in}
 use borrow.Author.Needs.{needs}
 use Rattle.printer.proofs.print_record.Statement.{statement}
