@@ -22,7 +22,7 @@ use Rattle.demands.specs.Worked.{lostHeader, threeBits, twoBits, workedR
 
 pub worked-fed : Fed workedRun
 unfolding workedRun inRange within
-worked-fed = record { range = tt; room = lit≤ tt; damaged = tt }
+worked-fed = record { ready = record { range = tt; room = lit≤ tt }; damaged = tt }
 
 pub worked-closes : ClosesClean workedRun 2
 unfolding workedRun entryAt closingOf
@@ -59,7 +59,7 @@ worked-light = record { single = single; header-kept = refl; rows-kept = kept }
 
 pub worked-passes : Passes workedRun 0 2
 unfolding workedRun matches sentHeader lineAt
-worked-passes = proof-c workedRun worked-fed 0 2 (lit< tt) tt worked-follows worked-light
+worked-passes = proof-c workedRun (worked-fed .ready) 0 2 tt worked-follows worked-light
 
 -- the cells of the record after a line
 unfoldable pub cellsAfter : Run → ℕ → Cells

@@ -33,10 +33,14 @@ throughout = 2
 abbrev pub lightly : ℕ
 lightly = 1
 
--- a lawful selection, a lent record that is long enough, and any lines within the damage
-pub record Fed (run : Run) : Type 0 where
+-- a lawful selection, and a lent record that is long enough
+pub record Ready (run : Run) : Type 0 where
   pub range : T (inRange (run .selection))
   pub room : recordLength ≤ length (run .lent)
+
+-- and any lines within the damage
+pub record Fed (run : Run) : Type 0 where
+  pub ready : Ready run
   pub damaged : T (within throughout (run .lines))
 
 -- the answer at line j closes clean
@@ -127,9 +131,9 @@ pub record Passes (run : Run) (i j : ℕ) : Type 0 where
   pub count : countOf (entryAt run i) ≡ 32
   pub word : closingOf (entryAt run j) ≡ closingNumber Clean
 
--- where line i matches the selection and line j is the next row 0 of its magazine. What came before line i is free within the damage, and line j's own
--- text may be wrong
+-- where line i matches the selection and line j is the next row 0 of its magazine. What came before line i is free, within the damage or not, and line
+-- j's own text may be wrong
 abbrev pub C : Type 0
 C =
-    (run : Run) → Fed run → (i j : ℕ) → j < length (run .lines) → T (matches (run .selection) (sentHeader (sentAt (run .lines) i)))
+    (run : Run) → Ready run → (i j : ℕ) → T (matches (run .selection) (sentHeader (sentAt (run .lines) i)))
     → Follows run i j → Light run i j → Passes run i j

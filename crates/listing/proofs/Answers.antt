@@ -1,14 +1,12 @@
 -- From an answer about a place to its line.
-use mathlib.Core.Path.{_≡_, refl, sym, _∙_, ap}
-use mathlib.Core.Bool.{cond}
+use mathlib.Core.Path.{_≡_, sym, _∙_, ap}
 use mathlib.Core.List.{List}
 use Prim.Native.Nat.{ℕ, _<_, _≤_}
 use borrow.Author.Tests.{lt-ltb, le-ltb}
 use lib.ListN.{length}
-use Rattle.laws.specs.Paper.{Paper}
 use Rattle.field.specs.Field.{asked, unitAt, anyUnitPaper}
 use Rattle.field.specs.declared.AnyUnit.{AnyUnit}
-use Rattle.listing.specs.Lines.{Told, last, told, tooLongText, lineAt, most}
+use Rattle.listing.specs.Lines.{last, told, tooLongText, lineAt, most}
 use Rattle.listing.specs.Held.{room, held, listedPaper}
 use Rattle.listing.specs.Private.{Written, stopped}
 use Rattle.listing.specs.declared.Line.{Line}

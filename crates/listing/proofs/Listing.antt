@@ -2,7 +2,7 @@
 -- the line of each place, one after the other, hands on the listing, and comes to its end.
 use mathlib.Core.Path.{_≡_, refl, sym, _∙_, ap}
 use mathlib.Core.Bool.{Bool, true, false, cond}
-use mathlib.Core.List.{List, [], _∷_, _++_, append-nil}
+use mathlib.Core.List.{List, [], _++_, append-nil}
 use mathlib.Core.Option.{Option, none, some}
 use Prim.Native.Nat.{ℕ, zero, suc, _+_, _-_, _<_, _≤_}
 use native.Mathlib.Omega.{arith}
@@ -20,12 +20,10 @@ use Rattle.field.specs.Field.{
   afterAt,
   short,
   wrongLength,
-  Here,
   the-end,
   a-unit,
   refused,
   here,
-  Way,
   leave,
   goOn,
   asked,

@@ -1,2 +1,5 @@
+pub mod Cases
+pub mod Pages
+pub mod Printable
 pub mod Printed
 pub mod Unique

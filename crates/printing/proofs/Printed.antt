@@ -1,16 +1,14 @@
 -- What a printed row is: forty bytes always; zeros beside a refusal.
-use mathlib.Core.Path.{_≡_, refl, sym, _∙_, ap}
+use mathlib.Core.Path.{_≡_, refl, _∙_, ap}
 use mathlib.Core.Bool.{false}
 use mathlib.Core.List.{List, [], map}
 use Prim.Native.Nat.{ℕ}
 use lib.ListN.{length, replicate, length-map}
-use Rattle.laws.specs.Paper.{Paper, refusedBy}
-use Rattle.display.specs.Display.{Displayed, columns, isRow, zeroCell, zeroCells, displayed, rowAnswerPaper, rowPaper}
-use Rattle.display.specs.declared.Cell.{Cell}
+use Rattle.laws.specs.Paper.{refusedBy}
+use Rattle.display.specs.Display.{Displayed, columns, isRow, zeroCells, displayed, rowAnswerPaper, rowPaper}
 use Rattle.display.specs.declared.Row.{Row}
-use Rattle.display.specs.declared.RowAnswer.{RowAnswer}
 use Rattle.display.proofs.Rows.{refused-row, always-forty}
-use Rattle.printing.specs.Printed.{cellByte, printed, printedPaper}
+use Rattle.printing.specs.Printed.{cellByte, printed}
 
 -- the row that `row_of` answers has forty cells
 pub row-cells : (row : Row) (codes : List ℕ) → rowPaper row ≡ displayed codes → row .cells ≡ displayed codes .cells

@@ -1,5 +1,5 @@
 -- `listing::put_decimal` meets its contract: a number of one digit, or the digits in front and the last. The measure is the number.
-use mathlib.Core.Path.{_≡_, refl, sym, _∙_, ap}
+use mathlib.Core.Path.{sym, _∙_, ap}
 use mathlib.Core.List.{_++_, append-assoc}
 use native.Mathlib.Omega.{arith}
 use borrow.Author.Needs.{needs}

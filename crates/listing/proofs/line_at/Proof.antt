@@ -1,10 +1,10 @@
 -- `listing::line_at` meets its contract: each case of `unit_at`'s answer has its line.
-use mathlib.Core.Path.{_≡_, refl, sym, _∙_, ap}
+use mathlib.Core.Path.{_≡_, sym, _∙_, ap}
 use lib.ListN.{length}
 use Rattle.laws.specs.Paper.{accepted, refusedBy}
 use Rattle.field.specs.Field.{asked, anyUnitPaper}
 use Rattle.field.specs.declared.AnyUnit.{AnyUnit}
-use Rattle.listing.specs.Lines.{told, numbered, taken, last, lineAt}
+use Rattle.listing.specs.Lines.{told, numbered, taken, lineAt}
 use Rattle.listing.specs.Held.{held, listedPaper, nextPaper}
 use Rattle.listing.proofs.Answers.{stops, stops-short, too-long, told-of}
 use Rattle.listing.proofs.Held.{used-fits}

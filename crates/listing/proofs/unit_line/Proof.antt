@@ -1,6 +1,5 @@
 -- `listing::unit_line` meets its contract: three numbers, each with what stands behind it.
-use mathlib.Core.Path.{_≡_}
-use mathlib.Core.List.{[], _∷_, _++_, append-assoc}
+use mathlib.Core.List.{[], _++_, append-assoc}
 use native.Mathlib.Omega.{arith}
 use borrow.Author.Needs.{needs}
 use Rattle.listing.specs.Lines.{decimal, space, lineFeed, unitText}

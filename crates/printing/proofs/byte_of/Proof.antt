@@ -1,5 +1,4 @@
 -- `printing::byte_of` meets its contract: by the symbol, and by whether its code is 7F.
-use mathlib.Core.Path.{_≡_, refl, sym, _∙_, ap}
 use borrow.Author.Tests.{eq-eqb, ne-eqb}
 use Rattle.printing.specs.Printed.{symbolByte}
 use borrow.Author.Needs.{needs}

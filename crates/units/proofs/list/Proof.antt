@@ -1,14 +1,14 @@
 -- `units::list` meets its contract. The loop's invariant: what was printed is the listing as far as the listing from this place, and no line was
 -- longer than 64 bytes. The measure is what is left of the field.
-use mathlib.Core.Path.{_≡_, refl, sym, _∙_, ap}
-use mathlib.Core.Option.{Option, none, some}
+use mathlib.Core.Path.{_≡_, sym, _∙_, ap}
+use mathlib.Core.Option.{some}
 use Prim.Native.Nat.{ℕ, _+_, _*_, _-_, _≤_}
 use native.Mathlib.Omega.{arith}
 use borrow.Author.Needs.{needs}
 use lib.ListN.{length, take, drop}
 use Rattle.listing.specs.Lines.{lineAt, listed}
 use Rattle.listing.specs.Held.{nextPaper}
-use Rattle.listing.proofs.Listing.{Sent, Onward, onward, sent-none, comes-next, sent-more, sent-all, used-is, text-is, used-inside, next-at}
+use Rattle.listing.proofs.Listing.{Sent, onward, sent-none, comes-next, sent-more, sent-all, used-is, text-is, used-inside, next-at}
 use Rattle.units.proofs.list.Statement.{statement}
 use Rattle.units.proofs.list.Tie as tie
 

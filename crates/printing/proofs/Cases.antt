@@ -1,0 +1,24 @@
+-- Worked rows, computed from the definitions: the start of a row's text is that of its first codes.
+use mathlib.Core.Path.{_≡_, refl}
+use mathlib.Core.List.{List, [], _∷_, map}
+use Prim.Native.Nat.{ℕ}
+use Rattle.display.specs.Display.{start, along}
+use Rattle.printing.specs.Printed.{cellByte}
+
+abbrev bytesOf : List ℕ → List ℕ
+bytesOf codes = map cellByte (along start codes)
+
+-- marked case 10: a space, and then mosaics, the last one blank
+pub mosaics-held : bytesOf (0x11 ∷ 0x7F ∷ 0x1E ∷ 0x12 ∷ 0x20 ∷ []) ≡ 0x20 ∷ 0x3F ∷ 0x3F ∷ 0x3F ∷ 0x3F ∷ []
+unfolding cellByte along start
+mosaics-held = refl
+
+-- concealed letters as letters, and 7F
+pub concealed : bytesOf (0x18 ∷ 0x41 ∷ 0x7F ∷ 0x7E ∷ []) ≡ 0x20 ∷ 0x41 ∷ 0x3F ∷ 0x7E ∷ []
+unfolding cellByte along start
+concealed = refl
+
+-- hold in letters shows a space; among mosaics the codes 40 to 5F are letters
+pub letters : bytesOf (0x1E ∷ 0x01 ∷ 0x11 ∷ 0x41 ∷ 0x61 ∷ []) ≡ 0x20 ∷ 0x20 ∷ 0x20 ∷ 0x41 ∷ 0x3F ∷ []
+unfolding cellByte along start
+letters = refl
