@@ -5,7 +5,7 @@ use Prim.Native.Nat.{ℕ}
 use lib.Dec.{eqb}
 use lib.ListN.{length, replicate}
 use Rattle.laws.specs.Paper.{Paper, accepted, refusedBy}
-use Rattle.packet.specs.declared.Header.{Header}
+use Rattle.packet.specs.Headers.{zeroHeader}
 use Rattle.page.specs.Lawful.{digitsLawful, cellsLawful}
 use Rattle.page.specs.Records.{cellCount, cellsOf, recordLength, recordValues, zeroFrom, pageFrom}
 use Rattle.page.specs.declared.Page.{Page}
@@ -13,18 +13,6 @@ use Rattle.page.specs.declared.ReadAnswer.{ReadAnswer}
 use Rattle.page.specs.declared.ReadAnswer.the-variants.{Read, WrongLength, NotZero, BadDigit, UnlawfulCells}
 
 -- all zeros, literally: characters 00, marks 0, magazine 0
-unfoldable pub zeroHeader : Header
-zeroHeader =
-    record {
-      tens = 0;
-      units = 0;
-      «hours_tens» = 0;
-      «hours_units» = 0;
-      «minutes_tens» = 0;
-      «minutes_units» = 0;
-      control = 0;
-    }
-
 unfoldable pub zeroPage : Page
 unfolding zeroHeader
 zeroPage =

@@ -1,5 +1,9 @@
-// The page printer: prints the page of the record on standard input as 24 lines of 40 characters, or why the record is refused.
-ghost use Prim.Native.Nat.{_≤_, _<_};
+// The page printer: prints the page of the record on standard input as 24 lines of 40 characters, or why the record is refused. What is printed is
+// what `output` says of the record.
+ghost use mathlib.Core.Path.{_≡_};
+ghost use lib.ListN.{length, take, drop};
+ghost use Rattle.printing.specs.Pages.{pageText};
+ghost use Rattle.printer.specs.Output.{output};
 use libc::STDIN_FILENO;
 use libc::STDOUT_FILENO;
 use page::CELLS;
@@ -10,40 +14,54 @@ use page::ReadAnswer;
 // One byte more than a record has, by which a longer one is known.
 const LIMIT: usize = 1086;
 
-fn print_row(codes: &[u8]) {
-    let row = printing::printed_row(codes);
-    let bytes = row.bytes;
-    io::write_all(STDOUT_FILENO, &bytes);
-    io::write_all(STDOUT_FILENO, b"\n");
+// Prints a part. The record and how much of the output was printed are there for the promise alone: that the part is the one that comes next.
+fn print(part: &[u8], record: &[u8], printed: usize) -> usize
+    requires { ⌜ now part ≡ take (length (now part)) (drop printed (output (now «record»))) ⌝ }
+    ensures { λ r. ⌜ r ≡ length (now (part .entry)) ⌝ }
+{
+    io::write_all(STDOUT_FILENO, part);
+    part.len()
 }
 
-fn print_page(characters: [u8; CELLS]) {
+// Prints the page that was read, and answers how many bytes that were.
+fn print_page(characters: [u8; CELLS], record: &[u8]) -> usize
+    requires { ⌜ output (now «record») ≡ pageText characters ⌝ }
+    ensures { λ r. ⌜ r ≡ length (output (now («record» .entry))) ⌝ }
+{
+    let mut printed = 0;
     let mut row = 0;
     while row < ROWS {
         let from = COLUMNS * row;
         let to = from + COLUMNS;
-        print_row(&characters[from..to]);
+        let line = printing::printed_row(&characters[from..to]);
+        let bytes = line.bytes;
+        printed += print(&bytes, record, printed);
+        printed += print(b"\n", record, printed);
         row += 1;
     }
+    printed
 }
 
-fn print(text: &[u8]) {
-    io::write_all(STDOUT_FILENO, text);
-}
-
-fn main() {
-    let mut input = [0u8; LIMIT];
-    let count = io::read_full(STDIN_FILENO, &mut input);
-    let read = page::read_record(&input[..count]);
+// Prints all that is to be printed for a record, and answers how many bytes that were.
+fn print_record(record: &[u8]) -> usize
+    ensures { λ r. ⌜ r ≡ length (output (now («record» .entry))) ⌝ }
+{
+    let read = page::read_record(record);
     let answer = read.answer;
     let page = read.page;
     let cells = page.cells;
     let characters = cells.characters;
     match answer {
-        ReadAnswer::Read => print_page(characters),
-        ReadAnswer::WrongLength => print(b"refused 20\n"),
-        ReadAnswer::NotZero => print(b"refused 21\n"),
-        ReadAnswer::BadDigit => print(b"refused 22\n"),
-        ReadAnswer::UnlawfulCells => print(b"refused 23\n"),
+        ReadAnswer::Read => print_page(characters, record),
+        ReadAnswer::WrongLength => print(b"refused 20\n", record, 0),
+        ReadAnswer::NotZero => print(b"refused 21\n", record, 0),
+        ReadAnswer::BadDigit => print(b"refused 22\n", record, 0),
+        ReadAnswer::UnlawfulCells => print(b"refused 23\n", record, 0),
     }
+}
+
+fn main() {
+    let mut input = [0u8; LIMIT];
+    let count = io::read_full(STDIN_FILENO, &mut input);
+    print_record(&input[..count]);
 }
