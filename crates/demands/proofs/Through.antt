@@ -63,7 +63,7 @@ pub record Stands (run : Run) (receiver : Receiver) (lent : List ℕ) : Type 0 w
 
 -- a line is refused and changes nothing, or its packet is taken
 module _ (receiver : Receiver) (line lent : List ℕ) (P : Receiver → List ℕ → Type 0) (same : P receiver lent)
-  (after : P (taken receiver (packetOf line) lent .receiver) (taken receiver (packetOf line) lent .lent)) where
+    (after : P (taken receiver (packetOf line) lent .receiver) (taken receiver (packetOf line) lent .lent)) where
   abbrev Kept : Entered → Type 0
   Kept e = P (e .receiver) (e .lent)
 
@@ -111,13 +111,29 @@ module _ (run : Run) (ready : Ready run) where
   abbrev pub outcomeAt : ℕ → Outcome
   outcomeAt k = taken (receiverAt k) (packetAt k) (lentAt k)
 
+  -- each line leaves to the next what its entry gave
+  left-receiver : (k : ℕ) → receiverAt (suc k) ≡ entryAt run k .receiver
+  unfolding standingBefore entryAt
+  left-receiver k = refl
+
+  left-lent : (k : ℕ) → lentAt (suc k) ≡ entryAt run k .lent
+  unfolding standingBefore entryAt
+  left-lent k = refl
+
+  entry-stands : (k : ℕ) → Stands run (receiverAt k) (lentAt k) → Stands run (entryAt run k .receiver) (entryAt run k .lent)
+  unfolding entryAt entering
+  entry-stands k stands =
+      line-kept (receiverAt k) (receivedAt (run .lines) k) (lentAt k) (Stands run) stands
+      (taken-stands run (receiverAt k) (packetOf (receivedAt (run .lines) k)) (lentAt k) stands)
+
+  at-first : Stands run (receiverAt 0) (lentAt 0)
+  unfolding standingBefore made
+  at-first = rw (passed (inRange (run .selection)) (ready .range)) (new-stands run ready)
+
   -- before each line
   pub standing : (k : ℕ) → Stands run (receiverAt k) (lentAt k)
-  unfolding standingBefore entering made
-  standing zero = rw (passed (inRange (run .selection)) (ready .range)) (new-stands run ready)
-  standing (suc k) =
-      line-kept (receiverAt k) (receivedAt (run .lines) k) (lentAt k) (Stands run) (standing k)
-      (taken-stands run (receiverAt k) (packetOf (receivedAt (run .lines) k)) (lentAt k) (standing k))
+  standing zero = at-first
+  standing (suc k) = rw (left-receiver k, left-lent k) (entry-stands k (standing k))
 
   -- a line within some damage is taken
   module _ (d k : ℕ) (sent : T (sentByRules (sentAt (run .lines) k))) (damaged : T (damage d (sentAt (run .lines) k) (receivedAt (run .lines) k))) where
@@ -127,8 +143,8 @@ module _ (run : Run) (ready : Ready run) where
         line-taken d (sentAt (run .lines) k) (receivedAt (run .lines) k) sent damaged (receiverAt k) (standing k .is) (lentAt k) (standing k .room)
 
     pub receiver-after : receiverAt (suc k) ≡ outcomeAt k .receiver
-    unfolding standingBefore entryAt entered
-    receiver-after = ap (λ (e : Entered). e .receiver) entry-is
+    unfolding entered
+    receiver-after = left-receiver k ∙ ap (λ (e : Entered). e .receiver) entry-is
 
 -- ---- and what is held, where the lines are within the damage
 
