@@ -13,7 +13,7 @@ use Rattle.laws.specs.Every.{every}
 use Rattle.laws.proofs.Keeps.{every-from}
 use Rattle.laws.proofs.Lists.{getD-part, length-part}
 use Rattle.packet.specs.Addresses.{lastRow}
-use Rattle.packet.specs.Sent.{sentText}
+use Rattle.packet.specs.Sent.{damage, sentByRules, sentText}
 use Rattle.packet.specs.Texts.{columns, headerColumn}
 use Rattle.page.specs.Lawful.{never}
 use Rattle.page.specs.Reading.{pageRead, readAnswer}
@@ -23,8 +23,8 @@ use Rattle.page.specs.declared.Page.{Page}
 use Rattle.page.specs.declared.ReadAnswer.the-variants.{Read}
 use Rattle.page.proofs.Trips.{page-read-back, reads-written}
 use Rattle.receiver.specs.Cells.{fresh}
-use Rattle.receiver.specs.Entries.{Entered, closingNumber, lawful}
-use Rattle.receiver.specs.Lines.{held}
+use Rattle.receiver.specs.Entries.{Entered, closingNumber, entered, lawful}
+use Rattle.receiver.specs.Lines.{Outcome, held}
 use Rattle.receiver.specs.declared.Closing.{Closing}
 use Rattle.receiver.specs.declared.Closing.the-variants as closing
 use Rattle.receiver.specs.declared.Receiver.{Receiver}
@@ -33,10 +33,10 @@ use Rattle.receiver.proofs.Closings.{Clean, clean-closing, length-record}
 use Rattle.receiver.proofs.Marks.{header-columns-never}
 use Rattle.receiver.proofs.Sized.{Sized}
 use Rattle.receiver.proofs.Writes.{page-written}
-use Rattle.demands.specs.Demands.{A, B, ClosesClean, Fed, Follows, Holds, Received, RowHolds, recordAfter}
-use Rattle.demands.specs.Runs.{Run, closingOf, lastText, receivedAt, rowPart, sentAt}
+use Rattle.demands.specs.Demands.{A, B, ClosesClean, Fed, Follows, Holds, Received, RowHolds, recordAfter, throughout}
+use Rattle.demands.specs.Runs.{Run, closingOf, entryAt, lastText, receivedAt, rowPart, sentAt}
 use Rattle.demands.proofs.Keeping.{Opening, RowIs, is-row, row-is}
-use Rattle.demands.proofs.Through.{Stands, closing-entered, entry-is, lent-entered, lentAt, line-at, outcomeAt, packetAt, receiverAt, standing}
+use Rattle.demands.proofs.Through.{Stands, closing-entered, entry-is, held-at, lent-entered, lentAt, line-at, outcomeAt, packetAt, receiverAt, standing}
 use Rattle.demands.proofs.Told.{length-sent, whole-sent}
 
 -- ---- a row of the page, from its cells
@@ -88,7 +88,7 @@ header-columns receiver is full =
 
 -- ---- the page that is held
 
-module _ (run : Run) (j : ℕ) (receiver : Receiver) (lent : List ℕ) (stands : Stands run j receiver lent)
+module _ (run : Run) (j : ℕ) (receiver : Receiver) (lent : List ℕ) (stands : Stands run receiver lent)
     (sure : receiver .doubt ≡ false) (i : ℕ) (opening : Opening run j receiver i) (whole : length (sentText (sentAt (run .lines) i)) ≡ columns) where
   held-holds : Holds run i j (held receiver)
   unfolding held
@@ -132,22 +132,34 @@ clean-is closing.Doubt e = absurd (omega arith)
 
 module _ (run : Run) (fed : Fed run) (j : ℕ) (closes : ClosesClean run j) where
   abbrev receiver : Receiver
-  receiver = receiverAt run fed j
+  receiver = receiverAt run (fed .ready) j
 
-  stands : Stands run j receiver (lentAt run fed j)
-  stands = standing run fed j (omega (arith, closes .line))
+  abbrev lent : List ℕ
+  lent = lentAt run (fed .ready) j
 
-  closed-clean : Clean receiver (packetAt run fed j) (lentAt run fed j) (outcomeAt run fed j)
+  abbrev outcome : Outcome
+  outcome = outcomeAt run (fed .ready) j
+
+  stands : Stands run receiver lent
+  stands = standing run (fed .ready) j
+
+  line-is : T (sentByRules (sentAt (run .lines) j)) × T (damage throughout (sentAt (run .lines) j) (receivedAt (run .lines) j))
+  line-is = line-at run fed j (closes .line)
+
+  entry : entryAt run j ≡ entered outcome
+  entry = entry-is run (fed .ready) throughout j (line-is .0) (line-is .1)
+
+  closed-clean : Clean receiver (packetAt run (fed .ready) j) lent outcome
   closed-clean =
-      clean-closing receiver (packetAt run fed j) (lentAt run fed j)
-      (clean-is (outcomeAt run fed j .closing)
-      (sym (closing-entered (outcomeAt run fed j)) ∙ (ap closingOf (sym (entry-is run fed j (closes .line))) ∙ closes .word)))
+      clean-closing receiver (packetAt run (fed .ready) j) lent
+      (clean-is (outcome .closing)
+      (sym (closing-entered outcome) ∙ (ap closingOf (sym entry) ∙ closes .word)))
 
   record-is : recordAfter run j ≡ recordOf (held receiver)
   record-is =
       ap (take recordLength)
-      (ap (λ (e : Entered). e .lent) (entry-is run fed j (closes .line)) ∙ (lent-entered (outcomeAt run fed j) ∙ closed-clean .wrote))
-      ∙ take-at (recordOf (held receiver)) (drop recordLength (lentAt run fed j)) recordLength (length-record (held receiver))
+      (ap (λ (e : Entered). e .lent) entry ∙ (lent-entered outcome ∙ closed-clean .wrote))
+      ∙ take-at (recordOf (held receiver)) (drop recordLength lent) recordLength (length-record (held receiver))
 
   reads-held : (readAnswer (recordOf (held receiver)) ≡ Read) × (pageRead (recordOf (held receiver)) ≡ held receiver)
   unfolding held
@@ -155,13 +167,13 @@ module _ (run : Run) (fed : Fed run) (j : ℕ) (closes : ClosesClean run j) wher
       (reads-written (held receiver) (stands .sized) answer, page-read-back (held receiver) (stands .sized) answer)
 
   opened-by : (i : ℕ) × Opening run j receiver i
-  opened-by = stands .held (closed-clean .was-open, closed-clean .undoubted)
+  opened-by = held-at run fed j (omega (arith, closes .line)) (closed-clean .was-open, closed-clean .undoubted)
 
   received : Received run j (opened-by .0)
   received =
       let (i, opening) = opened-by in
-      let (ours, zeroth) = whole-sent (sentAt (run .lines) j) (receivedAt (run .lines) j) (line-at run fed j (closes .line) .0)
-      (line-at run fed j (closes .line) .1) (receiver .selection .magazine) 0 (closed-clean .ours) in
+      let (ours, zeroth) = whole-sent (sentAt (run .lines) j) (receivedAt (run .lines) j) (line-is .0)
+      (line-is .1) (receiver .selection .magazine) 0 (closed-clean .ours) in
       record {
         follows =
             record {
@@ -175,7 +187,7 @@ module _ (run : Run) (fed : Fed run) (j : ℕ) (closes : ClosesClean run j) wher
         reads = ap readAnswer record-is ∙ reads-held .0;
         holds =
             subst (Holds run i j) (sym (ap pageRead record-is ∙ reads-held .1))
-            (held-holds run j receiver (lentAt run fed j) stands (closed-clean .undoubted) i opening
+            (held-holds run j receiver lent stands (closed-clean .undoubted) i opening
             (length-sent (sentAt (run .lines) i) (line-at run fed i (omega (arith, opening .before, closes .line)) .0)));
       }
 

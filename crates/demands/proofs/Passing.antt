@@ -25,7 +25,7 @@ use Rattle.receiver.proofs.Closings.{closes-clean, header-closes}
 use Rattle.receiver.proofs.Effects.{Opens, Stores, seenBy, taken-opens, taken-passed, taken-text}
 use Rattle.receiver.proofs.Shows.{sees-header, sees-late, sees-other, sees-text}
 use Rattle.receiver.proofs.Changes.{opening-count, opening-doubt, opening-open, storing-doubt, storing-open}
-use Rattle.demands.specs.Demands.{C, Fed, Follows, Light, Passes, lightly}
+use Rattle.demands.specs.Demands.{C, Follows, Light, Passes, Ready, lightly}
 use Rattle.demands.specs.Runs.{Run, characterBytes, closingOf, countOf, kindOf, lineAt, receivedAt, sentAt}
 use Rattle.demands.proofs.Keeping.{is-row, row-is}
 use Rattle.demands.proofs.Through.{closing-entered, count-entered, entry-is, kind-entered, lentAt, line-within, outcomeAt, receiver-after, receiverAt, standing}
@@ -125,7 +125,7 @@ opens-kind receiver packet lent o opens = ap (λ (x : Outcome). x .kind) (opens 
 
 -- ---- from a header to the next one
 
-module _ (run : Run) (fed : Fed run) (i j : ℕ) (line : j < length (run .lines)) (matched : T (matches (run .selection) (sentHeader (sentAt (run .lines) i))))
+module _ (run : Run) (ready : Ready run) (i j : ℕ) (matched : T (matches (run .selection) (sentHeader (sentAt (run .lines) i))))
     (follows : Follows run i j) (light : Light run i j) where
   abbrev m : ℕ
   m = run .selection .magazine
@@ -137,13 +137,13 @@ module _ (run : Run) (fed : Fed run) (i j : ℕ) (line : j < length (run .lines)
   r k = receivedAt (run .lines) k
 
   abbrev before : ℕ → Receiver
-  before k = receiverAt run fed k
+  before k = receiverAt run ready k
 
   lines-one : (k : ℕ) → i ≤ k → k ≤ j → T (sentByRules (s k)) × T (damage lightly (s k) (r k))
   lines-one k low h = line-within lightly (lineAt (run .lines) k) (light .single k low h)
 
   selects : (k : ℕ) → k ≤ j → before k .selection ≡ run .selection
-  selects k h = standing run fed k (omega arith) .selects
+  selects k h = standing run ready k .selects
 
   same-magazine : (k : ℕ) → k ≤ j → before k .selection .magazine ≡ m
   same-magazine k h = ap (λ (x : Selection). x .magazine) (selects k h)
@@ -155,31 +155,31 @@ module _ (run : Run) (fed : Fed run) (i j : ℕ) (line : j < length (run .lines)
   first-ours : (sentMagazine (s i) ≡ before i .selection .magazine) × (sentRow (s i) ≡ 0)
   first-ours = (row-is m 0 (s i) (follows .header) .0 ∙ sym (same-magazine i in-time), row-is m 0 (s i) (follows .header) .1)
 
-  opening : Opens (before i) (linePacket (r i)) (lentAt run fed i) (outcomeAt run fed i)
+  opening : Opens (before i) (linePacket (r i)) (lentAt run ready i) (outcomeAt run ready i)
   opening =
-      opens (before i) (s i) (r i) (lentAt run fed i) (lines-one i (omega arith) in-time .0) (lines-one i (omega arith) in-time .1) (first-ours .0)
+      opens (before i) (s i) (r i) (lentAt run ready i) (lines-one i (omega arith) in-time .0) (lines-one i (omega arith) in-time .1) (first-ours .0)
       (first-ours .1)
       (subst (λ (x : Selection). T (matches x (sentHeader (s i)))) (sym (selects i in-time)) matched)
 
-  sure-opening : outcomeAt run fed i .receiver .doubt ≡ false
+  sure-opening : outcomeAt run ready i .receiver .doubt ≡ false
   sure-opening =
-      opening-doubt (before i) (linePacket (r i)) (lentAt run fed i) (outcomeAt run fed i) opening
-      ∙ none-lost (before i) (s i) (r i) (lentAt run fed i) (lines-one i (omega arith) in-time .0) (lines-one i (omega arith) in-time .1) (first-ours .0)
+      opening-doubt (before i) (linePacket (r i)) (lentAt run ready i) (outcomeAt run ready i) opening
+      ∙ none-lost (before i) (s i) (r i) (lentAt run ready i) (lines-one i (omega arith) in-time .0) (lines-one i (omega arith) in-time .1) (first-ours .0)
       (first-ours .1)
       (light .header-kept)
 
   going-first : Going (before (suc i))
   going-first =
-      subst Going (sym (receiver-after run fed i (omega arith)))
-      (opening-open (before i) (linePacket (r i)) (lentAt run fed i) (outcomeAt run fed i) opening, sure-opening)
+      subst Going (sym (receiver-after run ready lightly i (lines-one i (omega arith) in-time .0) (lines-one i (omega arith) in-time .1)))
+      (opening-open (before i) (linePacket (r i)) (lentAt run ready i) (outcomeAt run ready i) opening, sure-opening)
 
   -- between
   going-further : (k : ℕ) → i < k → k < j → Going (before k) → Going (before (suc k))
   going-further k low high going =
       let late : k ≤ j = omega arith in
       let lines : T (sentByRules (s k)) × T (damage lightly (s k) (r k)) = lines-one k (omega arith) late in
-      subst Going (sym (receiver-after run fed k (omega arith)))
-      (stays-going (before k) (s k) (r k) (lentAt run fed k) (lines .0) (lines .1)
+      subst Going (sym (receiver-after run ready lightly k (lines .0) (lines .1)))
+      (stays-going (before k) (s k) (r k) (lentAt run ready k) (lines .0) (lines .1)
       (λ our zeroth. follows .none-between k low high (is-row m 0 (s k) (our ∙ same-magazine k late) zeroth))
       (λ our first last.
       light .rows-kept (sentRow (s k)) k first last low high (is-row m (sentRow (s k)) (s k) (our ∙ same-magazine k late) refl))
@@ -194,9 +194,9 @@ module _ (run : Run) (fed : Fed run) (i j : ℕ) (line : j < length (run .lines)
       by (no d) earlier = going-further k (omega arith) high (earlier (omega arith))
 
   -- at line j
-  closing-clean : outcomeAt run fed j .closing ≡ closing.Clean
+  closing-clean : outcomeAt run ready j .closing ≡ closing.Clean
   closing-clean =
-      closes (before j) (s j) (r j) (lentAt run fed j) (lines-one j in-time (omega arith) .0) (lines-one j in-time (omega arith) .1)
+      closes (before j) (s j) (r j) (lentAt run ready j) (lines-one j in-time (omega arith) .0) (lines-one j in-time (omega arith) .1)
       (row-is m 0 (s j) (follows .next) .0 ∙ sym (same-magazine j (omega arith)))
       (row-is m 0 (s j) (follows .next) .1)
       (going-at j (follows .before) (omega arith))
@@ -205,14 +205,14 @@ module _ (run : Run) (fed : Fed run) (i j : ℕ) (line : j < length (run .lines)
   passes =
       record {
         kind =
-            ap kindOf (entry-is run fed i (omega arith))
-            ∙ (kind-entered (outcomeAt run fed i) ∙ opens-kind (before i) (linePacket (r i)) (lentAt run fed i) (outcomeAt run fed i) opening);
+            ap kindOf (entry-is run ready lightly i (lines-one i (omega arith) in-time .0) (lines-one i (omega arith) in-time .1))
+            ∙ (kind-entered (outcomeAt run ready i) ∙ opens-kind (before i) (linePacket (r i)) (lentAt run ready i) (outcomeAt run ready i) opening);
         count =
-            ap countOf (entry-is run fed i (omega arith))
-            ∙ (count-entered (outcomeAt run fed i)
-            ∙ opening-count (before i) (linePacket (r i)) (lentAt run fed i) (outcomeAt run fed i) opening sure-opening);
-        word = ap closingOf (entry-is run fed j line) ∙ (closing-entered (outcomeAt run fed j) ∙ ap closingNumber closing-clean);
+            ap countOf (entry-is run ready lightly i (lines-one i (omega arith) in-time .0) (lines-one i (omega arith) in-time .1))
+            ∙ (count-entered (outcomeAt run ready i)
+            ∙ opening-count (before i) (linePacket (r i)) (lentAt run ready i) (outcomeAt run ready i) opening sure-opening);
+        word = ap closingOf (entry-is run ready lightly j (lines-one j in-time (omega arith) .0) (lines-one j in-time (omega arith) .1)) ∙ (closing-entered (outcomeAt run ready j) ∙ ap closingNumber closing-clean);
       }
 
 pub proof-c : C
-proof-c run fed i j line matched follows light = passes run fed i j line matched follows light
+proof-c run ready i j matched follows light = passes run ready i j matched follows light

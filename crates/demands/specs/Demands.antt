@@ -33,10 +33,14 @@ throughout = 2
 abbrev pub lightly : ℕ
 lightly = 1
 
--- a lawful selection, a lent record that is long enough, and any lines within the damage
-pub record Fed (run : Run) : Type 0 where
+-- a lawful selection, and a lent record that is long enough
+pub record Ready (run : Run) : Type 0 where
   pub range : T (inRange (run .selection))
   pub room : recordLength ≤ length (run .lent)
+
+-- and any lines within the damage
+pub record Fed (run : Run) : Type 0 where
+  pub ready : Ready run
   pub damaged : T (within throughout (run .lines))
 
 -- the answer at line j closes clean
@@ -80,15 +84,20 @@ pub record Received (run : Run) (j i : ℕ) : Type 0 where
   pub reads : readAnswer (recordAfter run j) ≡ Read
   pub holds : Holds run i j (pageRead (recordAfter run j))
 
+-- one number, and no other
 abbrev pub ExactlyOne : (ℕ → Type 0) → Type 0
 ExactlyOne P = (i : ℕ) × P i × ((k : ℕ) → P k → k ≡ i)
 
+-- for every lawful selection, every lent record of at least 1,085 bytes and every sequence of lines with at most two wrong bits in each Hamming byte and
+-- none or an odd number in each character byte: at each line j that closes clean there is exactly one line i that opened the page, and the record is
+-- the page that was sent from there
 abbrev pub A : Type 0
 A = (run : Run) → Fed run → (j : ℕ) → ClosesClean run j → ExactlyOne (Received run j)
 
 -- ---- B
 
--- what two receivers were sent, the first from line i to line j, the second from line k to line l
+-- one receiver was sent from line i to line j what another was sent from line k to line l: the header's numbers, time, control bits and text, and the
+-- same rows, with the same last texts
 pub record SameSent (run other : Run) (i j k l : ℕ) : Type 0 where
   pub magazine : sentMagazine (sentAt (run .lines) i) ≡ sentMagazine (sentAt (other .lines) k)
   pub header : sentHeader (sentAt (run .lines) i) ≡ sentHeader (sentAt (other .lines) k)
@@ -96,6 +105,8 @@ pub record SameSent (run other : Run) (i j k l : ℕ) : Type 0 where
   pub rows : (row : ℕ) → 1 ≤ row → row ≤ lastRow
       → lastText (run .selection .magazine) row (run .lines) i j ≡ lastText (other .selection .magazine) row (other .lines) k l
 
+-- for any two such runs with clean closings after which the first 1,085 bytes are equal: i and k are the headers of the two pages, which A shows to be
+-- there and to be the only ones
 abbrev pub B : Type 0
 B =
     (run other : Run) → Fed run → Fed other → (i j k l : ℕ) → ClosesClean run j → ClosesClean other l
@@ -120,7 +131,9 @@ pub record Passes (run : Run) (i j : ℕ) : Type 0 where
   pub count : countOf (entryAt run i) ≡ 32
   pub word : closingOf (entryAt run j) ≡ closingNumber Clean
 
+-- where line i matches the selection and line j is the next row 0 of its magazine. What came before line i is free, within the damage or not, and line
+-- j's own text may be wrong
 abbrev pub C : Type 0
 C =
-    (run : Run) → Fed run → (i j : ℕ) → j < length (run .lines) → T (matches (run .selection) (sentHeader (sentAt (run .lines) i)))
+    (run : Run) → Ready run → (i j : ℕ) → T (matches (run .selection) (sentHeader (sentAt (run .lines) i)))
     → Follows run i j → Light run i j → Passes run i j
