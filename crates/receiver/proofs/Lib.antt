@@ -12,6 +12,7 @@ pub mod Laid
 pub mod Lawful
 pub mod Laying
 pub mod Marks
+pub mod Playing
 pub mod Resting
 pub mod Rows
 pub mod Shows

@@ -1,5 +1,5 @@
 -- Any two answers that meet a public function's contract are equal, and so is what then lies in the lent record; said of the generated contracts.
-use mathlib.Core.Path.{_≡_, refl, _∙_, sym}
+use mathlib.Core.Path.{_≡_, refl, _∙_, sym, ap}
 use mathlib.Core.Bool.{cond}
 use mathlib.Core.List.{List}
 use mathlib.Core.Option.{Option, none, some}
@@ -22,8 +22,13 @@ use Rattle.receiver.proofs.Receiver.new as new
 use Rattle.receiver.proofs.Receiver.new.Reads as new-reads
 use Rattle.receiver.proofs.take_line as take-line
 use Rattle.receiver.proofs.take_line.Reads as take-line-reads
+use Rattle.receiver.specs.Recordings.{playedPaper}
+use Rattle.receiver.specs.declared.Played.{Played}
+use Rattle.receiver.specs.declared.Played.the-variants as played
 use Rattle.receiver.proofs.take_packet as take-packet
 use Rattle.receiver.proofs.take_packet.Reads as take-packet-reads
+use Rattle.receiver.proofs.take_recording as take-recording
+use Rattle.receiver.proofs.take_recording.Reads as take-recording-reads
 
 -- ---- answers by their numbers and values
 
@@ -48,6 +53,18 @@ answer-back answer.WrongFraming = refl
 
 pub answer-is : (a b : Answer) → answerPaper a ≡ answerPaper b → a ≡ b
 answer-is = told-apart answerPaper (λ (p : Paper). toAnswer (p .number) (p .values)) answer-back
+
+abbrev toPlayed : Option Paper → Played
+toPlayed none = played.End
+toPlayed (some p) = played.Stopped (toAnswer (p .number) (p .values))
+
+played-back : (p : Played) → toPlayed (playedPaper p) ≡ p
+unfolding playedPaper
+played-back played.End = refl
+played-back (played.Stopped a) = ap played.Stopped (answer-back a)
+
+pub played-is : (a b : Played) → playedPaper a ≡ playedPaper b → a ≡ b
+played-is = told-apart playedPaper toPlayed played-back
 
 abbrev toSelected : Option ℕ → Selected
 toSelected none = selected.OutOfRange
@@ -88,3 +105,14 @@ take-packet-unique κs a r r′ ws ws′ p q =
 pub take-line-unique : Unique take-line.ended take-line-reads.Post
 take-line-unique κs a r r′ ws ws′ p q =
     (stepped-is _ r r′ _ _ p q, λ i. (tt, (tt, ((p .left ∙ sym (q .left)) i, tt))))
+
+pub take-recording-unique : Unique take-recording.ended take-recording-reads.Post
+take-recording-unique κs a r r′ ws ws′ p q = (
+  λ i.
+      record {
+        receiver = (p .kept ∙ sym (q .kept)) i;
+        used = (p .counted ∙ sym (q .counted)) i;
+        answer = played-is (r .answer) (r′ .answer) (p .answered ∙ sym (q .answered)) i;
+      },
+  λ i. (tt, (tt, ((p .left ∙ sym (q .left)) i, tt))),
+)

@@ -3,3 +3,4 @@ pub mod Entries
 pub mod Lines
 pub mod Private
 pub mod Selections
+pub mod Recordings

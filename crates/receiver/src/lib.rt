@@ -3,18 +3,19 @@
 ghost use mathlib.Core.Bool.{true};
 ghost use mathlib.Core.List.{[], map};
 ghost use mathlib.Core.Path.{_≡_};
-ghost use Prim.Native.Nat.{_+_, _-_, _≤_};
+ghost use Prim.Native.Nat.{_+_, _-_, _≤_, min};
 ghost use lib.ListN.{length};
 ghost use Rattle.packet.specs.Addresses.{lastRow};
 ghost use Rattle.packet.specs.Headers.{headerOf, zeroHeader};
-ghost use Rattle.packet.specs.Lines.{packetLength};
+ghost use Rattle.packet.specs.Lines.{framed, lineLength, packetLength};
 ghost use Rattle.packet.specs.Texts.{textOf};
 ghost use Rattle.page.specs.Lawful.{cellsFit, cellsLawful};
 ghost use Rattle.page.specs.Records.{recordLength};
 ghost use Rattle.receiver.specs.Cells.{age, firstColumn, howMany, keptCharacter, keptMark, rowFound};
-ghost use Rattle.receiver.specs.Entries.{Meets, isZero, lawful, lineEntered, made, madeAnswer, packetEntered, packetTaken};
+ghost use Rattle.receiver.specs.Entries.{Meets, answerPaper, isZero, lawful, lineBy, lineEntered, made, madeAnswer, packetEntered, packetTaken};
 ghost use Rattle.receiver.specs.Lines.{closed, closingWord, doubted, effect, headerSeen, headerTaken, justClosed, lentAfter, nothing, openingCells, rowStored, seenWhole, textTaken, unsureTaken};
 ghost use Rattle.receiver.specs.Private.{Took, bothLawful, foundFrom, heard, laidRow, one, stateOf, wordOf};
+ghost use Rattle.receiver.specs.Recordings.{PlaysAs, goesOn, played};
 ghost use Rattle.receiver.specs.Selections.{inRange, matches, selectedPaper, timeMatches, whenInRange};
 use coding::Character;
 use packet::Address;
@@ -93,6 +94,19 @@ pub enum Answer {
 pub struct Stepped {
     pub receiver: Receiver,
     pub answer: Answer,
+}
+
+// How playing a recording ended: at its end, or at a line that was refused or closed a page.
+pub enum Played {
+    End,
+    Stopped(Answer),
+}
+
+// The receiver after a recording was played, how many lines were used, and how it ended.
+pub struct Recorded {
+    pub receiver: Receiver,
+    pub used: usize,
+    pub answer: Played,
 }
 
 // A receiver whose page is closed, and the closing word.
@@ -655,6 +669,27 @@ pub fn take_packet(receiver: Receiver, packet: &[u8], record: &mut [u8]) -> Step
     step(receiver, packet, record)
 }
 
+// A line, for a receiver that is known to be lawful and a record that is long enough.
+fn line_step(receiver: Receiver, line: &[u8], record: &mut [u8]) -> Stepped
+    requires { ⌜ (lawful receiver ≡ true) × (recordLength ≤ length (now «record»)) ⌝ }
+    ensures { λ r. ⌜ Meets (lineBy (framed (now (line .entry))) receiver (now (line .entry)) (now («record» .entry))) r (now («record» .exit)) ⌝ }
+{
+    match packet::framed_line(line) {
+        Framed::Packet => {
+            let packet = packet::packet_of(line);
+            step(receiver, packet, record)
+        }
+        Framed::WrongLength => Stepped {
+            receiver,
+            answer: Answer::WrongLength,
+        },
+        Framed::WrongFraming => Stepped {
+            receiver,
+            answer: Answer::WrongFraming,
+        },
+    }
+}
+
 // A data-line of 45 bytes.
 pub fn take_line(receiver: Receiver, line: &[u8], record: &mut [u8]) -> Stepped
     ensures { λ r. ⌜ Meets (lineEntered receiver (now (line .entry)) (now («record» .entry))) r (now («record» .exit)) ⌝ }
@@ -671,18 +706,96 @@ pub fn take_line(receiver: Receiver, line: &[u8], record: &mut [u8]) -> Stepped
             answer: Answer::ShortRecord,
         };
     }
-    match packet::framed_line(line) {
-        Framed::Packet => {
-            let packet = packet::packet_of(line);
-            step(receiver, packet, record)
-        }
-        Framed::WrongLength => Stepped {
-            receiver,
-            answer: Answer::WrongLength,
+    line_step(receiver, line, record)
+}
+
+fn goes_on(answer: Answer) -> bool
+    ensures { λ r. ⌜ r ≡ goesOn (answerPaper answer) ⌝ }
+{
+    match answer {
+        Answer::Taken {
+            kind: _,
+            count: _,
+            closing,
+        } => match closing {
+            Closing::None => true,
+            Closing::Clean => false,
+            Closing::Doubt => false,
         },
-        Framed::WrongFraming => Stepped {
-            receiver,
-            answer: Answer::WrongFraming,
-        },
+        Answer::Unlawful => false,
+        Answer::ShortRecord => false,
+        Answer::WrongLength => false,
+        Answer::WrongFraming => false,
     }
+}
+
+fn line_size(rest: usize) -> usize
+    ensures { λ r. ⌜ r ≡ min lineLength rest ⌝ }
+{
+    if rest < packet::LINE_LENGTH {
+        rest
+    } else {
+        packet::LINE_LENGTH
+    }
+}
+
+// Lines end to end, for a receiver that is known to be lawful and a record that is long enough.
+fn play(receiver: Receiver, recording: &[u8], record: &mut [u8]) -> Recorded
+    requires { ⌜ (lawful receiver ≡ true) × (recordLength ≤ length (now «record»)) ⌝ }
+    ensures { λ r. ⌜ PlaysAs (played receiver (now (recording .entry)) (now («record» .entry))) r (now («record» .exit)) ⌝ }
+{
+    let mut current = receiver;
+    let mut at = 0;
+    let mut used = 0;
+    while at < recording.len() {
+        let size = line_size(recording.len() - at);
+        let line = &recording[at..at + size];
+        let stepped = line_step(current, line, record);
+        let answer = stepped.answer;
+        let next = stepped.receiver;
+        used += 1;
+        if !goes_on(answer) {
+            return Recorded {
+                receiver: next,
+                used,
+                answer: Played::Stopped(answer),
+            };
+        }
+        current = next;
+        at += size;
+    }
+    Recorded {
+        receiver: current,
+        used,
+        answer: Played::End,
+    }
+}
+
+// A recording: data-lines end to end, played to the first that is refused or closes a page, or to the end. 18 and 12 are asked once: a lawful receiver
+// stays lawful, and a record keeps its length.
+pub fn take_recording(receiver: Receiver, recording: &[u8], record: &mut [u8]) -> Recorded
+    ensures { λ r. ⌜ PlaysAs (played receiver (now (recording .entry)) (now («record» .entry))) r (now («record» .exit)) ⌝ }
+{
+    if recording.len() == 0 {
+        return Recorded {
+            receiver,
+            used: 0,
+            answer: Played::End,
+        };
+    }
+    if !is_lawful(receiver) {
+        return Recorded {
+            receiver,
+            used: 1,
+            answer: Played::Stopped(Answer::Unlawful),
+        };
+    }
+    if record.len() < page::RECORD_LENGTH {
+        return Recorded {
+            receiver,
+            used: 1,
+            answer: Played::Stopped(Answer::ShortRecord),
+        };
+    }
+    play(receiver, recording, record)
 }
