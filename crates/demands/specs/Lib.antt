@@ -1,4 +1,5 @@
 pub mod Demands
 pub mod Marked
+pub mod Recorded
 pub mod Runs
 pub mod Worked

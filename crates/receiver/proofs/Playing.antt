@@ -48,7 +48,7 @@ module _ (receiver : Receiver) (rest lent : List ℕ) (used : ℕ) where
       (cond (goesOn (entry .answer)) (playing bound (entry .receiver) (drop lineLength rest) (entry .lent) (used + 1)) (stoppedAt entry (used + 1))))
       (eq-eqb (length rest) 0 e)
 
-  turn : (bound : ℕ) → (length rest ≡ 0 → ⊥) → (on : Bool) → goesOn (entry .answer) ≡ on → playing (suc bound) receiver rest lent used
+  pub turn : (bound : ℕ) → (length rest ≡ 0 → ⊥) → (on : Bool) → goesOn (entry .answer) ≡ on → playing (suc bound) receiver rest lent used
       ≡ cond on (playing bound (entry .receiver) (drop lineLength rest) (entry .lent) (used + 1)) (stoppedAt entry (used + 1))
   unfolding playing
   turn bound d on g =
