@@ -6,7 +6,8 @@ use Prim.Native.Nat.{ℕ, _<_, _≤_}
 use native.Mathlib.Omega.{arith}
 use borrow.Author.Tests.{lt-ltb, le-ltb, le-leb, lt-leb, ne-eqb}
 use lib.Dec.{eqb, leb, ltb}
-use Rattle.display.specs.Display.{ownCell, shownControl, shown, givesPattern, mosaic, cell, afterCell, passed, cellAt, next}
+use Rattle.display.specs.Display.{ownCell, shownControl, shown, givesPattern, mosaic, cell, afterCell, cellAt, next}
+use Rattle.display.specs.Private.{passed}
 use Rattle.display.specs.declared.Symbol.{Symbol}
 use Rattle.display.specs.declared.Symbol.the-variants.{Letter}
 use Rattle.display.specs.declared.state.RowState.{RowState}

@@ -5,6 +5,7 @@ use mathlib.Core.List.{List, [], _∷_}
 use Prim.Native.Nat.{ℕ, _+_, _-_, _*_, _/_, _%_, _^_}
 use lib.Dec.{eqb, leb, ltb}
 use lib.ListN.{length, replicate}
+use Rattle.laws.specs.Every.{every}
 use Rattle.laws.specs.Paper.{Paper, accepted, refusedBy}
 use Rattle.display.specs.declared.Cell.{Cell}
 use Rattle.display.specs.declared.Row.{Row}
@@ -162,23 +163,6 @@ afterCell state code =
       before = code;
     }
 
--- a state in which nothing is new but what is held and the code before, as after a code of 20 to 7F
-unfoldable pub passed : RowState → Symbol → ℕ → RowState
-passed state held code =
-    record {
-      mosaics = state .mosaics;
-      foreground = state .foreground;
-      background = state .background;
-      flash = state .flash;
-      conceal = state .conceal;
-      boxed = state .boxed;
-      double = state .double;
-      separated = state .separated;
-      hold = state .hold;
-      held = held;
-      before = code;
-    }
-
 -- ---- the row
 
 -- effects at a code's own cell come before it is shown
@@ -203,8 +187,8 @@ columns = 40
 
 -- codes of 00 to 7F
 unfoldable pub allCodes : List ℕ → Bool
-allCodes [] = true
-allCodes (code ∷ codes) = leb code 0x7F && allCodes codes
+unfolding every
+allCodes codes = every (λ (code : ℕ). leb code 0x7F) codes
 
 -- 40 codes of 00 to 7F
 unfoldable pub isRow : List ℕ → Bool

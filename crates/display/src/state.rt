@@ -3,7 +3,8 @@
 ghost use mathlib.Core.Path.{_≡_};
 ghost use mathlib.Core.Bool.{cond};
 ghost use Prim.Native.Nat.{_<_, _≤_};
-ghost use Rattle.display.specs.Display.{start, blank, ownCell, pattern, givesPattern, mosaic, shownControl, cell, afterCell, passed, cellAt, next};
+ghost use Rattle.display.specs.Display.{start, blank, ownCell, pattern, givesPattern, mosaic, shownControl, cell, afterCell, cellAt, next};
+ghost use Rattle.display.specs.Private.{passed};
 use crate::Cell;
 use crate::Symbol;
 

@@ -1,6 +1,6 @@
 -- `display::RowState::passed` meets its contract: field by field.
 use mathlib.Core.Path.{refl}
-use Rattle.display.specs.Display.{passed}
+use Rattle.display.specs.Private.{passed}
 use Rattle.display.proofs.state.RowState.passed.Statement.{statement}
 use Rattle.display.proofs.state.RowState.passed.Tie as tie
 
