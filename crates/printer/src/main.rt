@@ -2,13 +2,9 @@
 // what `output` says of the record.
 ghost use mathlib.Core.Path.{_≡_};
 ghost use lib.ListN.{length, take, drop};
-ghost use Rattle.printing.specs.Pages.{pageText};
 ghost use Rattle.printer.specs.Output.{output};
 use libc::STDIN_FILENO;
 use libc::STDOUT_FILENO;
-use page::CELLS;
-use page::COLUMNS;
-use page::ROWS;
 use page::ReadAnswer;
 
 // One byte more than a record has, by which a longer one is known.
@@ -23,25 +19,6 @@ fn print(part: &[u8], record: &[u8], printed: usize) -> usize
     part.len()
 }
 
-// Prints the page that was read, and answers how many bytes that were.
-fn print_page(characters: [u8; CELLS], record: &[u8]) -> usize
-    requires { ⌜ output (now «record») ≡ pageText characters ⌝ }
-    ensures { λ r. ⌜ r ≡ length (output (now («record» .entry))) ⌝ }
-{
-    let mut printed = 0;
-    let mut row = 0;
-    while row < ROWS {
-        let from = COLUMNS * row;
-        let to = from + COLUMNS;
-        let line = printing::printed_row(&characters[from..to]);
-        let bytes = line.bytes;
-        printed += print(&bytes, record, printed);
-        printed += print(b"\n", record, printed);
-        row += 1;
-    }
-    printed
-}
-
 // Prints all that is to be printed for a record, and answers how many bytes that were.
 fn print_record(record: &[u8]) -> usize
     ensures { λ r. ⌜ r ≡ length (output (now («record» .entry))) ⌝ }
@@ -52,7 +29,10 @@ fn print_record(record: &[u8]) -> usize
     let cells = page.cells;
     let characters = cells.characters;
     match answer {
-        ReadAnswer::Read => print_page(characters, record),
+        ReadAnswer::Read => {
+            let text = printing::printed_page(characters);
+            print(&text, record, 0)
+        }
         ReadAnswer::WrongLength => print(b"refused 20\n", record, 0),
         ReadAnswer::NotZero => print(b"refused 21\n", record, 0),
         ReadAnswer::BadDigit => print(b"refused 22\n", record, 0),

@@ -1,4 +1,4 @@
--- Any two answers that meet the public function's contract are equal, said of the generated contract.
+-- Any two answers that meet a public function's contract are equal, said of the generated contracts.
 use mathlib.Core.Path.{_≡_, refl, _∙_, sym}
 use mathlib.Core.Bool.{cond}
 use mathlib.Core.Option.{Option, none, some}
@@ -11,6 +11,8 @@ use Rattle.display.specs.declared.RowAnswer.{RowAnswer}
 use Rattle.display.specs.declared.RowAnswer.the-variants.{Shown, Refused}
 use Rattle.printing.specs.Printed.{Printed, printedPaper}
 use Rattle.printing.specs.declared.PrintedRow.{PrintedRow}
+use Rattle.printing.proofs.printed_page as printed-page
+use Rattle.printing.proofs.printed_page.Reads as printed-page-reads
 use Rattle.printing.proofs.printed_row as printed-row
 use Rattle.printing.proofs.printed_row.Reads as printed-row-reads
 
@@ -32,3 +34,6 @@ row-back row = back-answer (row .answer) row refl
 
 pub printed-row-unique : Unique printed-row.ended printed-row-reads.Post
 printed-row-unique κs a r r′ ws ws′ p q = (told-apart printedPaper rowBack row-back r r′ (p .0 ∙ sym (q .0)), refl)
+
+pub printed-page-unique : Unique printed-page.ended printed-page-reads.Post
+printed-page-unique κs a r r′ ws ws′ p q = (p ∙ sym q, refl)

@@ -1,12 +1,24 @@
-// A row of a page as text: forty bytes, one for each cell.
+// A row of a page as text, forty bytes, one for each cell; and a page, twenty-four such rows, each with a line feed.
 ghost use mathlib.Core.List.{map};
 ghost use mathlib.Core.Path.{_≡_};
+ghost use Prim.Native.Nat.{_+_, _≤_};
 ghost use lib.ListN.{length};
+ghost use lib.Seq.{paste};
+ghost use Rattle.printing.specs.Pages.{pageText};
 ghost use Rattle.printing.specs.Printed.{symbolByte, cellByte, printed, printedPaper};
 use display::COLUMNS;
 use display::Cell;
 use display::RowAnswer;
 use display::Symbol;
+
+pub const ROWS: usize = 24;
+
+pub const CELLS: usize = ROWS * COLUMNS;
+
+// A row's text with its line feed.
+pub const LINE: usize = COLUMNS + 1;
+
+pub const PAGE: usize = ROWS * LINE;
 
 // An answer and the bytes beside it, which are zeros where the row was refused.
 pub struct PrintedRow {
@@ -56,4 +68,36 @@ pub fn printed_row(codes: &[u8]) -> PrintedRow
     let cells = row.cells;
     let bytes = bytes_of(cells);
     PrintedRow { answer, bytes }
+}
+
+// A row's bytes in their place in a page's text.
+fn with_row(text: [u8; PAGE], from: usize, bytes: [u8; COLUMNS]) -> [u8; PAGE]
+    requires { ⌜ (from + 40 ≤ length text) × (length text ≡ 984) × (length bytes ≡ 40) ⌝ }
+    ensures { λ r. ⌜ r ≡ paste text from bytes 40 ⌝ }
+{
+    let mut result = text;
+    let mut column = 0;
+    while column < COLUMNS {
+        result[from + column] = bytes[column];
+        column += 1;
+    }
+    result
+}
+
+// The text of a page's characters. It starts as line feeds alone, so that each row needs only its bytes.
+pub fn printed_page(characters: [u8; CELLS]) -> [u8; PAGE]
+    ensures { λ r. ⌜ r ≡ pageText characters ⌝ }
+{
+    let mut text = [b'\n'; PAGE];
+    let mut row = 0;
+    while row < ROWS {
+        let from = COLUMNS * row;
+        let to = from + COLUMNS;
+        let line = printed_row(&characters[from..to]);
+        let bytes = line.bytes;
+        let more = with_row(text, LINE * row, bytes);
+        text = more;
+        row += 1;
+    }
+    text
 }

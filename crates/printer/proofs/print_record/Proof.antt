@@ -3,6 +3,7 @@ use mathlib.Core.Path.{_≡_, sym, _∙_, ap}
 use mathlib.Core.List.{List}
 use Prim.Native.Nat.{ℕ}
 use lib.ListN.{length, take, drop}
+use lib.Seq.{take-length}
 use Rattle.laws.specs.Paper.{accepted, refusedBy}
 use Rattle.page.specs.Reading.{readPaper, pageRead}
 use Rattle.page.specs.declared.Page.{Page}
@@ -19,31 +20,33 @@ found : (c : tie.After-read-record) {case : ReadAnswer} → c .read-record .resu
     → output (c .before .before .args .«record» .now) ≡ outputOf (readPaper case .number) (pageRead (c .before .before .args .«record» .now) .cells .characters)
 found c e = output-in _ e (c .read-record .ensures .0)
 
+-- the page that was read, as the output
+page-found : (c : tie.After-printed-page) → c .printed-page .result ≡ output (c .before .before .before .before .before .before .before .before .args .«record» .now)
+unfolding outputOf readPaper accepted refusedBy
+page-found c =
+    let call = c .before .before .before .before .before .before in
+    c .printed-page .ensures
+    ∙ (ap (λ (page : Page). pageText (page .cells .characters)) (call .read-record .ensures .1) ∙ sym (found call (c .before .enum-told .given .1)))
+
 read-record-requires : tie.Need-read-record-requires
 read-record-requires c κs = search needs
 
 enum-told : tie.Need-enum-told
 enum-told c = search needs
 
-print-page-requires : tie.Need-print-page-requires
-unfolding outputOf readPaper accepted refusedBy
-print-page-requires c κs =
-    let call = c .before .before .before .before .before in
-    found call (c .enum-told .given .1) ∙ ap (λ (page : Page). pageText (page .cells .characters)) (sym (call .read-record .ensures .1))
-
-enum-told-2 : tie.Need-enum-told-2
-enum-told-2 c = search needs
+printed-page-requires : tie.Need-printed-page-requires
+printed-page-requires c κs = search needs
 
 slice-aggregate-print : tie.Need-slice-aggregate-print
 slice-aggregate-print c = search needs
 
 print-requires : tie.Need-print-requires
-unfolding outputOf readPaper accepted refusedBy
 print-requires c κs =
-    ap (λ (text : List ℕ). take 11 (drop 0 text)) (sym (found (c .before .before .before .before .before .before) (c .before .enum-told2 .given .1)))
+    let text = c .before .printed-page .result in
+    sym (take-length text) ∙ ap (take (length text)) (page-found (c .before))
 
-enum-told-3 : tie.Need-enum-told-3
-enum-told-3 c = search needs
+enum-told-2 : tie.Need-enum-told-2
+enum-told-2 c = search needs
 
 slice-aggregate-print-2 : tie.Need-slice-aggregate-print-2
 slice-aggregate-print-2 c = search needs
@@ -51,10 +54,10 @@ slice-aggregate-print-2 c = search needs
 print-requires-2 : tie.Need-print-requires-2
 unfolding outputOf readPaper accepted refusedBy
 print-requires-2 c κs =
-    ap (λ (text : List ℕ). take 11 (drop 0 text)) (sym (found (c .before .before .before .before .before .before) (c .before .enum-told3 .given .1)))
+    ap (λ (text : List ℕ). take 11 (drop 0 text)) (sym (found (c .before .before .before .before .before .before) (c .before .enum-told2 .given .1)))
 
-enum-told-4 : tie.Need-enum-told-4
-enum-told-4 c = search needs
+enum-told-3 : tie.Need-enum-told-3
+enum-told-3 c = search needs
 
 slice-aggregate-print-3 : tie.Need-slice-aggregate-print-3
 slice-aggregate-print-3 c = search needs
@@ -62,10 +65,10 @@ slice-aggregate-print-3 c = search needs
 print-requires-3 : tie.Need-print-requires-3
 unfolding outputOf readPaper accepted refusedBy
 print-requires-3 c κs =
-    ap (λ (text : List ℕ). take 11 (drop 0 text)) (sym (found (c .before .before .before .before .before .before) (c .before .enum-told4 .given .1)))
+    ap (λ (text : List ℕ). take 11 (drop 0 text)) (sym (found (c .before .before .before .before .before .before) (c .before .enum-told3 .given .1)))
 
-enum-told-5 : tie.Need-enum-told-5
-enum-told-5 c = search needs
+enum-told-4 : tie.Need-enum-told-4
+enum-told-4 c = search needs
 
 slice-aggregate-print-4 : tie.Need-slice-aggregate-print-4
 slice-aggregate-print-4 c = search needs
@@ -73,30 +76,41 @@ slice-aggregate-print-4 c = search needs
 print-requires-4 : tie.Need-print-requires-4
 unfolding outputOf readPaper accepted refusedBy
 print-requires-4 c κs =
+    ap (λ (text : List ℕ). take 11 (drop 0 text)) (sym (found (c .before .before .before .before .before .before) (c .before .enum-told4 .given .1)))
+
+enum-told-5 : tie.Need-enum-told-5
+enum-told-5 c = search needs
+
+slice-aggregate-print-5 : tie.Need-slice-aggregate-print-5
+slice-aggregate-print-5 c = search needs
+
+print-requires-5 : tie.Need-print-requires-5
+unfolding outputOf readPaper accepted refusedBy
+print-requires-5 c κs =
     ap (λ (text : List ℕ). take 11 (drop 0 text)) (sym (found (c .before .before .before .before .before .before) (c .before .enum-told5 .given .1)))
 
 returns : tie.Need-returns
-returns c = search needs
+returns c = c .print .ensures ∙ ap length (page-found (c .before .before))
 
 returns-2 : tie.Need-returns-2
 unfolding outputOf readPaper accepted refusedBy
 returns-2 c =
-    c .print .ensures ∙ sym (ap length (found (c .before .before .before .before .before .before .before) (c .before .before .enum-told2 .given .1)))
+    c .print2 .ensures ∙ sym (ap length (found (c .before .before .before .before .before .before .before) (c .before .before .enum-told2 .given .1)))
 
 returns-3 : tie.Need-returns-3
 unfolding outputOf readPaper accepted refusedBy
 returns-3 c =
-    c .print2 .ensures ∙ sym (ap length (found (c .before .before .before .before .before .before .before) (c .before .before .enum-told3 .given .1)))
+    c .print3 .ensures ∙ sym (ap length (found (c .before .before .before .before .before .before .before) (c .before .before .enum-told3 .given .1)))
 
 returns-4 : tie.Need-returns-4
 unfolding outputOf readPaper accepted refusedBy
 returns-4 c =
-    c .print3 .ensures ∙ sym (ap length (found (c .before .before .before .before .before .before .before) (c .before .before .enum-told4 .given .1)))
+    c .print4 .ensures ∙ sym (ap length (found (c .before .before .before .before .before .before .before) (c .before .before .enum-told4 .given .1)))
 
 returns-5 : tie.Need-returns-5
 unfolding outputOf readPaper accepted refusedBy
 returns-5 c =
-    c .print4 .ensures ∙ sym (ap length (found (c .before .before .before .before .before .before .before) (c .before .before .enum-told5 .given .1)))
+    c .print5 .ensures ∙ sym (ap length (found (c .before .before .before .before .before .before .before) (c .before .before .enum-told5 .given .1)))
 
 pub print-record-spec : {M : Type 1} → statement M
 print-record-spec =
@@ -104,19 +118,21 @@ print-record-spec =
     (tie.spec
     read-record-requires
     enum-told
-    print-page-requires
-    enum-told-2
+    printed-page-requires
     slice-aggregate-print
     print-requires
-    enum-told-3
+    enum-told-2
     slice-aggregate-print-2
     print-requires-2
-    enum-told-4
+    enum-told-3
     slice-aggregate-print-3
     print-requires-3
-    enum-told-5
+    enum-told-4
     slice-aggregate-print-4
     print-requires-4
+    enum-told-5
+    slice-aggregate-print-5
+    print-requires-5
     returns
     returns-2
     returns-3
