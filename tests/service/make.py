@@ -1,0 +1,348 @@
+"""Writes the recording of a small teletext service to standard output.
+
+    python3 make.py > stdin
+
+The service has three magazines, sent in parallel: one line of magazine 1,
+one of magazine 2, one of magazine 3, and again, 150 lines in all. So line n
+of magazine m is line 3n - 3 + m of the recording, counting from 1.
+
+The charities, their references and the places are invented.
+
+First the texts, then the plan, then how the plan becomes bytes.
+"""
+
+import sys
+
+# ---------------------------------------------------------------- the texts
+# A name in braces is a control code and takes one cell, like a letter.
+# {block} is the code 7F. Rows are filled up with spaces to 40 cells.
+
+TEXTS = {
+    # Page 100. Row 10 is what a reader copies on to a payment slip.
+    "appeal": {
+        1: "{yellow}LANTERN MOSS OTTER TRUST",
+        3: "{white}An invented charity in an example.",
+        5: "The otters of Lantern Moss need a new",
+        6: "holt before winter. A plank costs two",
+        7: "pounds and a round door costs nine.",
+        9: "{cyan}To give, quote this reference:",
+        10: "{yellow}MOSS 4417 0926",
+        12: "Given so far: 1,204 pounds",
+        20: "Stall by the mill on Sunday at three.",
+        22: "{green}Bakers: page 101",
+        24: "Otters  Bakers  Weather  Puzzle",
+    },
+    "total": {
+        12: "Given so far: 1,260 pounds",
+    },
+    # Page 101. Its reference stands in the same row as that of page 100,
+    # so that a receiver which mixes the two pages sends gifts astray.
+    "fund": {
+        1: "{yellow}BRASS KETTLE BAKERS' FUND",
+        3: "{white}Another invented charity.",
+        9: "{cyan}To give, quote this reference:",
+        10: "{yellow}BUNS 8050 3371",
+    },
+    # Page 200.
+    "weather": {
+        1: "{yellow}WEATHER FOR LANTERN MOSS",
+        3: "{cyan}Morning: mist, then bright",
+        4: "{cyan}Noon: bright",
+        5: "{cyan}Afternoon: cloud from the west",
+        7: "{cyan}Evening: rain on the hills",
+        9: "{white}Wind: light, from the north",
+        11: "{white}Frost: none before Tuesday",
+        24: "Tides: page 201",
+    },
+    # Page 201.
+    "tides": {
+        1: "{yellow}TIDES AT THE MILL",
+        3: "High water 06:12 and 18:40",
+        5: "Low water  00:25 and 12:31",
+    },
+    # Page 301: colours, mosaics, hold and conceal.
+    "puzzle": {
+        1: "{yellow}PUZZLE CORNER",
+        3: "{blue}{new background}{white}Lantern Moss by night",
+        5: "{mosaic green}jjjj5555{white}Reeds",
+        # Capitals show as letters among mosaics.
+        6: "{mosaic cyan}pppRIVERppp{white}The river",
+        # Never back to letters: its spaces are blank mosaics to the end.
+        7: "{mosaic yellow}{block}{block}  {block}",
+        # Hold shows the last mosaic at the control codes, release ends it.
+        9: "{mosaic red}{block}{hold}{mosaic green}{mosaic blue}{block}"
+           "{release}{mosaic white}{white}Held, then released",
+        # Going to letters forgets the held mosaic; coming back it is blank.
+        10: "{mosaic red}{block}{hold}{white}A{cyan}B{mosaic red}"
+            "{mosaic blue}{separated}{block}{white}Held, then blank",
+        11: "{cyan}What swims, whistles and digs holts?",
+        12: "{white}Answer:{conceal}AN OTTER{white}(press reveal)",
+        13: "{green}The blot {block} is code 7F",
+        14: "Readers 4, puzzle 2",
+        16: "{flash}Next puzzle at 12:30{steady}or so",
+        25: "Row 25 is not for the page",
+    },
+    "puzzle-later": {
+        11: "{cyan}What has a door and no key?",
+        12: "{white}Answer:{conceal}A HOLT{white}(press reveal)",
+        14: "Readers 5, puzzle 2",
+        18: "{magenta}New at 12:03: the second puzzle",
+    },
+    # Page 302.
+    "post": {
+        1: "{yellow}POST BAG",
+        3: "A reader asks who painted the bridge.",
+        5: "A reader answers: it was the rain.",
+    },
+}
+
+# ----------------------------------------------------------------- the plan
+# One entry is one line; "rows 1 3 of fund" is one line for each number.
+# "erase" sets C4. Without it, what the page held before stays, as older.
+# After a semicolon comes the damage on the way. One wrong bit in framing, an
+# address or a header's number is put right; two are not, and the byte (for
+# framing, the line) is refused. One wrong bit in a character is refused.
+# Pages with FF are time-filling: nobody can ask for them, but they end the
+# page before. "links" is a row 27.
+
+MAGAZINE_1 = """
+    page 100 at 12:01, erase
+    rows 1 3 5 6 7 9 of appeal
+    row 10 of appeal; one wrong bit in column 9      # line 22: a digit of the reference
+    rows 12 20 22 24 of appeal
+    page 101 at 12:02, erase                         # line 37: ends 100 at 12:01, in doubt
+    rows 1 3 9 10 of fund
+
+    # Row 20 is not sent again and nothing is erased, so the text of 12:01
+    # stays; whoever asked for 100/1204 never had it. The single wrong bits
+    # and the unread row 27 do no harm: this sending is clean.
+    page 100 at 12:04; one wrong bit in hours units  # line 52
+    row 1 of appeal
+    row 3 of appeal; one wrong bit in framing
+    rows 5 6 of appeal
+    row 7 of appeal; one wrong bit in address 2
+    rows 9 10 of appeal
+    row 12 of total
+    row 22 of appeal
+    links; two wrong bits in address 1               # line 82
+
+    # Which page begins here cannot be read, but one does: 100 at 12:04 ends,
+    # clean, and the rows that follow must not be filed in it.
+    page 101 at 12:05, erase; two wrong bits in page units   # line 85
+    rows 1 9 10 of fund
+
+    # Here the header of page 101 is lost whole, and its rows 9 and 10 do land
+    # in page 100. The receiver cannot know; the missing line must count.
+    page 100 at 12:07, erase                         # line 97
+    rows 1 3 5 6 7 9 10 of appeal
+    row 12 of total
+    row 22 of appeal
+    page 101 at 12:08, erase; two wrong bits in framing      # line 127
+    rows 9 10 of fund
+    page 1FF at 12:09                                # line 136: ends 100 at 12:07
+
+    page 100 at 12:10                                # line 139: open at the end
+    rows 1 9 10 of appeal
+"""
+
+MAGAZINE_2 = """
+    page 200 at 12:01, erase
+    rows 1 3 5 of weather
+    row 7 of weather; two wrong bits in address 2    # line 14: not row 0, so doubt only
+    rows 9 11 24 of weather
+    page 200 at 12:02                                # line 26: ends 200 at 12:01
+    rows 1 3 5 7 9 of weather
+    # Nothing of this address can be read: it may have been a header of any
+    # magazine. It ends page 200; 100 and 301 are not open now.
+    row 11 of weather; two wrong bits in address 1 and two wrong bits in address 2   # line 44
+    row 24 of weather
+    page 201 at 12:03, erase
+    rows 1 3 5 of tides
+    page 200 at 12:04, erase                         # line 62
+    rows 1 3 of weather
+    # An even row, so it may have been row 0: page 200 ends, and 5, 7 and 9
+    # go nowhere. Magazine 2 was read, so pages 100 and 301 are not touched.
+    row 4 of weather; two wrong bits in address 2    # line 71
+    rows 5 7 9 of weather
+    page 200 at 12:06, erase                         # line 83
+    rows 1 3 of weather
+    # Magazine unread, and no row 0: doubt for 200 and for 301, both open.
+    row 5 of weather; two wrong bits in address 1    # line 92
+    rows 7 9 of weather
+    page 2FF at 12:07                                # line 101: ends 200 at 12:06
+    page 200 at 12:08                                # line 104
+    row 1 of weather
+    row 3 of weather; one wrong bit in column 11     # line 110
+    rows 5 7 9 11 24 of weather
+    page 201 at 12:09, erase                         # line 128: ends 200 at 12:08
+    rows 1 3 5 of tides
+    page 200 at 12:10, erase                         # line 140
+    row 1 of weather
+    row 4 of weather; two wrong bits in address 2    # line 146: ends 200 at 12:10, as line 71
+    row 5 of weather
+"""
+
+MAGAZINE_3 = """
+    page 301 at 12:00, erase
+    rows 1 3 5 6 7 9 10 11 12 13 14 16 of puzzle
+    page 3FF at 12:01                                # line 42: ends 301 at 12:00, clean
+    page 302 at 12:01, erase
+    rows 1 3 of post
+
+    # Three rows replaced and one added; all others are those of 12:00, older.
+    page 301 at 12:03                                # line 54
+    rows 11 12 14 18 of puzzle-later
+    row 25 of puzzle
+    page 302 at 12:04, erase                         # line 72: ends 301 at 12:03, clean
+    rows 1 3 5 of post
+    page 301 at 12:06, erase                         # line 84: in doubt from line 92
+    rows 1 3 5 6 7 9 of puzzle
+    page 302 at 12:07, erase                         # line 105: ends 301 at 12:06
+    rows 1 3 of post
+    # Line 127 is missing while this sending is open. It was not even of this
+    # magazine, but that is just what a refused framing code does not say.
+    page 301 at 12:08, erase                         # line 114
+    rows 1 3 5 9 11 13 of puzzle
+    page 3FF at 12:09                                # line 135: ends 301 at 12:08
+    # Erased, so nothing older shows. Its own next header ends it, clean.
+    page 301 at 12:09, erase                         # line 138
+    row 1 of puzzle
+    row 14 of puzzle-later
+    page 301 at 12:10                                # line 147: open at the end
+    links
+"""
+
+# ------------------------------------------------------------ codes of cells
+
+COLOURS = ["red", "green", "yellow", "blue", "magenta", "cyan", "white"]
+
+CODES = {"flash": 0x08, "steady": 0x09, "conceal": 0x18, "separated": 0x1A,
+         "new background": 0x1D, "hold": 0x1E, "release": 0x1F, "block": 0x7F}
+for number, colour in enumerate(COLOURS, start=1):
+    CODES[colour] = number
+    CODES["mosaic " + colour] = 0x10 + number
+
+
+def cells(text, width):
+    """The codes of a text, filled up with spaces."""
+    codes = []
+    while text:
+        if text[0] == "{":
+            name, text = text[1:].split("}", 1)
+            codes.append(CODES[name])
+        else:
+            codes.append(ord(text[0]))
+            text = text[1:]
+    assert len(codes) <= width, "a row is too long"
+    return codes + [0x20] * (width - len(codes))
+
+
+# ------------------------------------------------------------ protected bytes
+
+HAMMING = bytes.fromhex("15 02 49 5E 64 73 38 2F D0 C7 8C 9B A1 B6 FD EA")
+
+
+def hamming(messages):
+    return [HAMMING[message] for message in messages]
+
+
+def odd(codes):
+    """The codes with b8 set wherever the ones would be even in number."""
+    return [c if bin(c).count("1") % 2 else c | 0x80 for c in codes]
+
+
+def turned(byte):
+    """The byte end for end: b1 is sent first, and first means on the left."""
+    return int(f"{byte:08b}"[::-1], 2)
+
+
+# ----------------------------------------------------------- packets and lines
+
+def address(magazine, row):
+    """The row's lowest bit rides with the magazine, the rest comes after."""
+    return hamming([magazine % 8 + 8 * (row % 2), row // 2])
+
+
+def header(magazine, page, time, erase):
+    hours_tens, hours, minutes_tens, minutes = (int(d) for d in time if d != ":")
+    tens, units = int(page[1], 16), int(page[2], 16)
+    # All of C5 to C14 are 0; C11 too, as the magazines are sent in parallel.
+    numbers = [units, tens, minutes, minutes_tens + 8 * erase, hours, hours_tens, 0, 0]
+    text = f"LANTERNTEXT {page} Sat 14 Mar {time}"
+    return address(magazine, 0) + hamming(numbers) + odd(cells(text, 32))
+
+
+def row(magazine, number, text):
+    return address(magazine, number) + odd(cells(text, 40))
+
+
+def links(magazine):
+    """A row 27 whose six links lead nowhere."""
+    nowhere = [15, 15, 15, 7, 15, 3]
+    return address(magazine, 27) + hamming([0] + 6 * nowhere + [15, 0, 0])
+
+
+def line(packet):
+    """Clock run-in and framing code stand as sent, the packet is turned."""
+    return bytearray([0xAA, 0xAA, 0xE4] + [turned(byte) for byte in packet])
+
+
+# --------------------------------------------------------------------- damage
+
+PLACES = {"framing": 2, "address 1": 3, "address 2": 4, "page units": 5, "hours units": 9}
+
+
+def place(name):
+    """Where in the line a byte stands. Column 0 would be the sixth byte."""
+    if name.startswith("column "):
+        return 5 + int(name.removeprefix("column "))
+    return PLACES[name]
+
+
+def spoil(sent, damage):
+    """Turns over the first bit or the first two bits of the bytes named."""
+    for part in damage.split(" and "):
+        count, name = part.split(" in ")
+        sent[place(name)] ^= {"one wrong bit": 0x80, "two wrong bits": 0xC0}[count]
+
+
+# ------------------------------------------------------- from plan to recording
+
+def entries(plan):
+    """The plan without its remarks: pairs of what is sent and the damage."""
+    for words in plan.splitlines():
+        words = words.split("#")[0].strip()
+        if words:
+            what, _, damage = words.partition("; ")
+            yield what, damage
+
+
+def packets(magazine, what):
+    words = what.replace(",", "").split()
+    if words[0] == "links":
+        return [links(magazine)]
+    if words[0] == "page":
+        return [header(magazine, words[1], words[3], "erase" in words)]
+    numbers, text = words[1:-2], TEXTS[words[-1]]
+    return [row(magazine, int(number), text[int(number)]) for number in numbers]
+
+
+def lines(magazine, plan):
+    for what, damage in entries(plan):
+        for packet in packets(magazine, what):
+            sent = line(packet)
+            if damage:
+                spoil(sent, damage)
+            yield sent
+
+
+def recording():
+    plans = [MAGAZINE_1, MAGAZINE_2, MAGAZINE_3]
+    streams = [list(lines(number, plan)) for number, plan in enumerate(plans, start=1)]
+    lengths = [len(stream) for stream in streams]
+    assert lengths == [50, 50, 50], lengths
+    return b"".join(one for three in zip(*streams) for one in three)
+
+
+if __name__ == "__main__":
+    sys.stdout.buffer.write(recording())
