@@ -1,6 +1,5 @@
 // The pieces that several sorts share, between a case's bytes and the library's types. Bytes are asked for at places that a case is known to have; past
 // its end they are 0, and a part is empty, so that no place needs a proof.
-ghost use Prim.Native.Nat.{_≤_};
 use crate::text;
 use packet::Header;
 use page::CELLS;
@@ -10,13 +9,29 @@ use receiver::Receiver;
 use receiver::Selection;
 use receiver::When;
 
-// The bytes of a selection, of a receiver and of a page. A receiver has its selection, two flags, its header, its characters and its marks; a page its
-// magazine, its header, a flag, its characters and its marks.
-pub(crate) const SELECTION: usize = 8;
+// The bytes of a number, a selection, a receiver and a page.
+pub(crate) const NUMBER_LENGTH: usize = 2;
 
-pub(crate) const RECEIVER: usize = 1938;
+pub(crate) const SELECTION_LENGTH: usize = 8;
 
-pub(crate) const PAGE: usize = 1930;
+pub(crate) const RECEIVER_LENGTH: usize = 1938;
+
+pub(crate) const PAGE_LENGTH: usize = 1930;
+
+// Where the parts of a receiver start, after its selection, and those of a page, after its magazine.
+const RECEIVER_OPEN: usize = 8;
+
+const RECEIVER_DOUBT: usize = 9;
+
+const RECEIVER_HEADER: usize = 10;
+
+const RECEIVER_CELLS: usize = 18;
+
+const PAGE_HEADER: usize = 1;
+
+const PAGE_CLEAN: usize = 9;
+
+const PAGE_CELLS: usize = 10;
 
 pub(crate) fn byte_at(bytes: &[u8], at: usize) -> u8 {
     if at < bytes.len() { bytes[at] } else { 0 }
@@ -95,24 +110,24 @@ fn cells_of(form: &[u8]) -> Cells {
 
 pub(crate) fn receiver_of(form: &[u8]) -> Receiver {
     let selection = selection_of(form);
-    let header = header_of(rest(form, 10));
-    let cells = cells_of(rest(form, 18));
+    let header = header_of(rest(form, RECEIVER_HEADER));
+    let cells = cells_of(rest(form, RECEIVER_CELLS));
     Receiver {
         selection,
-        open: byte_at(form, 8) == 1,
-        doubt: byte_at(form, 9) == 1,
+        open: byte_at(form, RECEIVER_OPEN) == 1,
+        doubt: byte_at(form, RECEIVER_DOUBT) == 1,
         header,
         cells,
     }
 }
 
 pub(crate) fn page_of(form: &[u8]) -> Page {
-    let header = header_of(rest(form, 1));
-    let cells = cells_of(rest(form, 10));
+    let header = header_of(rest(form, PAGE_HEADER));
+    let cells = cells_of(rest(form, PAGE_CELLS));
     Page {
         magazine: byte_at(form, 0),
         header,
-        clean: byte_at(form, 9) == 1,
+        clean: byte_at(form, PAGE_CLEAN) == 1,
         cells,
     }
 }
@@ -193,28 +208,29 @@ pub(crate) fn put_page(page: Page) {
     put_cells(cells);
 }
 
-// Whether these are the 18 bytes of a receiver before its cells.
-fn is_head_of(form: &[u8], receiver: Receiver) -> bool {
+// Whether a receiver's form has this receiver's parts before the cells.
+fn has_head(form: &[u8], receiver: Receiver) -> bool {
     let chosen = receiver.selection;
     let selection = selection_bytes(chosen);
     let flags = [receiver.open as u8, receiver.doubt as u8];
     let last = receiver.header;
     let header = header_bytes(last);
-    check::same(part(form, 0, 8), &selection)
-        & check::same(part(form, 8, 10), &flags)
-        & check::same(part(form, 10, 18), &header)
+    check::same(part(form, 0, RECEIVER_OPEN), &selection)
+        & check::same(part(form, RECEIVER_OPEN, RECEIVER_HEADER), &flags)
+        & check::same(part(form, RECEIVER_HEADER, RECEIVER_CELLS), &header)
 }
 
-fn are_cells_of(form: &[u8], cells: Cells) -> bool {
+// Whether these bytes are the cells: characters, then marks.
+fn has_cells(form: &[u8], cells: Cells) -> bool {
     let characters = cells.characters;
     let marks = cells.marks;
     check::same(part(form, 0, CELLS), &characters) & check::same(rest(form, CELLS), &marks)
 }
 
-// The word `same` where the receiver is still the one of the form.
+// The word `same` where the receiver is still that of the form.
 pub(crate) fn put_receiver_after(form: &[u8], receiver: Receiver) {
     let cells = receiver.cells;
-    if is_head_of(part(form, 0, 18), receiver) & are_cells_of(rest(form, 18), cells) {
+    if has_head(form, receiver) & has_cells(rest(form, RECEIVER_CELLS), cells) {
         text::put(b"same");
     } else {
         put_receiver(receiver);

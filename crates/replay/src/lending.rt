@@ -1,6 +1,4 @@
 // Lent records: how they are before a call, and what became of them.
-ghost use Prim.Native.Nat.{_≤_};
-use crate::forms;
 use crate::text;
 
 // The longest record that two bytes can name.

@@ -61,13 +61,18 @@ fn take(sort: u8, receiver: Receiver, bytes: &[u8], record: &mut [u8]) -> Steppe
 }
 
 pub(crate) fn answer_line(sort: u8, input: &[u8], room: &mut [u8], spare: &mut [u8]) {
-    let form = forms::part(input, 0, forms::RECEIVER);
+    let form = forms::part(input, 0, forms::RECEIVER_LENGTH);
     let receiver = forms::receiver_of(form);
-    let after_form = forms::rest(input, forms::RECEIVER);
+    let after_form = forms::rest(input, forms::RECEIVER_LENGTH);
     let length = forms::first_double(after_form);
     let record = lending::lend(room, length);
     let kept = lending::lend(spare, length);
-    let stepped = take(sort, receiver, forms::rest(after_form, 2), record);
+    let stepped = take(
+        sort,
+        receiver,
+        forms::rest(after_form, forms::NUMBER_LENGTH),
+        record,
+    );
     let answer = stepped.answer;
     let after = stepped.receiver;
     put_answer(answer);

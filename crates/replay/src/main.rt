@@ -10,7 +10,7 @@ mod runs;
 mod text;
 mod units;
 
-ghost use Prim.Native.Nat.{_+_, _*_, _≤_};
+ghost use Prim.Native.Nat.{_*_, _≤_};
 ghost use lib.ListN.{length};
 use libc::STDIN_FILENO;
 
@@ -31,7 +31,7 @@ fn input_length(head: &[u8; HEAD]) -> usize
     forms::double(high, low) as usize
 }
 
-// Bytes from two digits each, in the place of their own text.
+// Bytes from two digits each. They go to the start of the room that the digits are in, so that no second one is needed.
 fn decode(room: &mut [u8], count: usize)
     requires { ⌜ 2 * count ≤ length (now room) ⌝ }
 {
@@ -48,12 +48,12 @@ fn is_whole(sort: u8, input: &[u8]) -> bool {
     match sort {
         b'b' => count >= 1,
         b'n' | b'a' | b'd' | b'u' | b'g' => true,
-        b's' => count >= forms::SELECTION,
-        b'l' | b'm' | b'p' => count >= forms::RECEIVER + 2,
+        b's' => count >= forms::SELECTION_LENGTH,
+        b'l' | b'm' | b'p' => count >= forms::RECEIVER_LENGTH + forms::NUMBER_LENGTH,
         b'e' => runs::is_whole(input),
-        b'r' => count >= forms::SELECTION + 2,
-        b'w' => count >= forms::PAGE + 2,
-        b'f' => count >= 2,
+        b'r' => count >= forms::SELECTION_LENGTH + forms::NUMBER_LENGTH,
+        b'w' => count >= forms::PAGE_LENGTH + forms::NUMBER_LENGTH,
+        b'f' => count >= forms::NUMBER_LENGTH,
         _ => false,
     }
 }
@@ -72,6 +72,7 @@ fn answer(sort: u8, input: &[u8], room: &mut [u8], spare: &mut [u8]) {
         b'f' => units::answer_search(input),
         b'u' => units::answer_units(input),
         b'g' => cells::answer_row(input),
+        // The sorts l, m and p.
         _ => lines::answer_line(sort, input, room, spare),
     }
 }
@@ -84,19 +85,19 @@ fn answer_if_whole(is_read: bool, sort: u8, input: &[u8], room: &mut [u8], spare
     text::put(b"malformed");
 }
 
-// Reads what stands after the head of a case, and puts the input's bytes at the start of `text`; whether it is all there, and not too long.
-fn read_input(text: &mut [u8], count: usize) -> bool
-    requires { ⌜ (count ≤ 65535) × (131071 ≤ length (now text)) ⌝ }
+// Reads what stands after the head of a case, and puts the input's bytes at the start of `line`; whether it is all there, and not too long.
+fn read_input(line: &mut [u8], count: usize) -> bool
+    requires { ⌜ (count ≤ 65535) × (131071 ≤ length (now line)) ⌝ }
 {
     let size = 2 * count + 1;
-    let got = io::read_full(STDIN_FILENO, &mut text[..size]);
-    decode(text, count);
+    let got = io::read_full(STDIN_FILENO, &mut line[..size]);
+    decode(line, count);
     (got == size) & (count <= LONGEST)
 }
 
 // One case and its answer; false at the end of the cases.
-fn answer_next(text: &mut [u8], room: &mut [u8], spare: &mut [u8]) -> bool
-    requires { ⌜ 131071 ≤ length (now text) ⌝ }
+fn answer_next(line: &mut [u8], room: &mut [u8], spare: &mut [u8]) -> bool
+    requires { ⌜ 131071 ≤ length (now line) ⌝ }
 {
     let mut head = [0u8; HEAD];
     let got = io::read_full(STDIN_FILENO, &mut head);
@@ -105,20 +106,20 @@ fn answer_next(text: &mut [u8], room: &mut [u8], spare: &mut [u8]) -> bool
     }
     let sort = head[0];
     let count = input_length(&head);
-    let is_read = read_input(text, count);
-    let input = forms::part(text, 0, count);
+    let is_read = read_input(line, count);
+    let input = forms::part(line, 0, count);
     answer_if_whole(is_read, sort, input, room, spare);
     text::end_line();
     true
 }
 
 // All cases. The count of turns is there so that the loop is seen to end.
-fn answer_all(text: &mut [u8], room: &mut [u8], spare: &mut [u8])
-    requires { ⌜ 131071 ≤ length (now text) ⌝ }
+fn answer_all(line: &mut [u8], room: &mut [u8], spare: &mut [u8])
+    requires { ⌜ 131071 ≤ length (now line) ⌝ }
 {
     let mut turns = u64::MAX;
     while turns > 0 {
-        if !answer_next(text, room, spare) {
+        if !answer_next(line, room, spare) {
             return;
         }
         turns -= 1;
@@ -126,8 +127,8 @@ fn answer_all(text: &mut [u8], room: &mut [u8], spare: &mut [u8])
 }
 
 fn main() {
-    let mut text = [0u8; ROOM];
+    let mut line = [0u8; ROOM];
     let mut room = [0u8; lending::ROOM];
     let mut spare = [0u8; lending::ROOM];
-    answer_all(&mut text, &mut room, &mut spare);
+    answer_all(&mut line, &mut room, &mut spare);
 }

@@ -27,7 +27,7 @@ fn read_number(answer: ReadAnswer) -> u64 {
 
 pub(crate) fn answer_written(input: &[u8], room: &mut [u8], spare: &mut [u8]) {
     let page = forms::page_of(input);
-    let length = forms::first_double(forms::rest(input, forms::PAGE));
+    let length = forms::first_double(forms::rest(input, forms::PAGE_LENGTH));
     let record = lending::lend(room, length);
     let kept = lending::lend(spare, length);
     let answer = page::write_record(page, record);

@@ -6,12 +6,12 @@ use crate::text;
 use receiver::Played;
 use receiver::Receiver;
 
-// Where the count of lines stands, and the first line.
+// Where a sequence has its count of lines, and its first line.
 const COUNT: usize = 10;
 
 const FIRST: usize = 11;
 
-// What one call of the recording entry came to.
+// One call of the recording entry: the receiver after it, how many lines it used, and whether more are to be played.
 struct Turn {
     receiver: Receiver,
     used: usize,
@@ -36,6 +36,9 @@ fn after_line(input: &[u8], place: usize) -> usize {
 
 // Whether all lines of a sequence are there.
 pub(crate) fn is_whole(input: &[u8]) -> bool {
+    if input.len() < FIRST {
+        return false;
+    }
     let mut place = FIRST;
     let mut left = forms::byte_at(input, COUNT);
     while left > 0 {
@@ -76,7 +79,7 @@ fn take_each(receiver: Receiver, input: &[u8], record: &mut [u8], spare: &mut [u
 }
 
 pub(crate) fn answer_sequence(input: &[u8], room: &mut [u8], spare: &mut [u8]) {
-    let length = forms::first_double(forms::rest(input, forms::SELECTION));
+    let length = forms::first_double(forms::rest(input, forms::SELECTION_LENGTH));
     let record = lending::lend(room, length);
     let kept = lending::lend(spare, length);
     let last = take_each(new_receiver(input), input, record, kept);
@@ -93,37 +96,38 @@ fn after_lines(recording: &[u8], place: usize, count: usize) -> usize {
     recording.len()
 }
 
-// One call of the recording entry.
-fn play(receiver: Receiver, left: &[u8], record: &mut [u8], spare: &mut [u8]) -> Turn {
-    lending::keep(record, spare);
-    let played = receiver::take_recording(receiver, left, record);
-    let next = played.receiver;
-    let used = played.used;
-    let end = played.answer;
+// What a call of the recording entry came to; whether it stopped before the end.
+fn put_played(end: Played, used: usize, receiver: Receiver, kept: &[u8], record: &[u8]) -> bool {
     match end {
         Played::Stopped(answer) => {
             text::put(b"stop ");
             text::item(used as u64);
             lines::put_answer(answer);
             text::space();
-            lending::put_after(spare, record);
+            lending::put_after(kept, record);
             text::space();
-            Turn {
-                receiver: next,
-                used,
-                more: true,
-            }
+            true
         }
         Played::End => {
             text::put(b"end ");
             text::item(used as u64);
-            forms::put_receiver(next);
-            Turn {
-                receiver: next,
-                used,
-                more: false,
-            }
+            forms::put_receiver(receiver);
+            false
         }
+    }
+}
+
+fn play(receiver: Receiver, left: &[u8], record: &mut [u8], spare: &mut [u8]) -> Turn {
+    lending::keep(record, spare);
+    let played = receiver::take_recording(receiver, left, record);
+    let end = played.answer;
+    let used = played.used;
+    let next = played.receiver;
+    let more = put_played(end, used, next, spare, record);
+    Turn {
+        receiver: next,
+        used,
+        more,
     }
 }
 
@@ -145,13 +149,13 @@ fn play_all(receiver: Receiver, recording: &[u8], record: &mut [u8], spare: &mut
 }
 
 pub(crate) fn answer_recording(input: &[u8], room: &mut [u8], spare: &mut [u8]) {
-    let after_selection = forms::rest(input, forms::SELECTION);
+    let after_selection = forms::rest(input, forms::SELECTION_LENGTH);
     let length = forms::first_double(after_selection);
     let record = lending::lend(room, length);
     let kept = lending::lend(spare, length);
     play_all(
         new_receiver(input),
-        forms::rest(after_selection, 2),
+        forms::rest(after_selection, forms::NUMBER_LENGTH),
         record,
         kept,
     );

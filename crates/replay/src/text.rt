@@ -1,5 +1,4 @@
 // The text of answers on standard output: words, decimal numbers, and bytes in hexadecimal; and a hexadecimal digit read back.
-ghost use mathlib.Core.Path.{_≡_};
 ghost use Prim.Native.Nat.{_≤_, _<_};
 ghost use lib.ListN.{length};
 use libc::STDOUT_FILENO;

@@ -4,10 +4,10 @@ use crate::text;
 use field::AnyUnit;
 use field::Found;
 
-// Whether a listing goes on, and from which place.
-struct Next {
-    place: usize,
-    more: bool,
+// The place where a listing goes on, or its end.
+enum Next {
+    At(usize),
+    Stop,
 }
 
 fn put_at(number: u64, place: usize) {
@@ -16,7 +16,10 @@ fn put_at(number: u64, place: usize) {
 }
 
 pub(crate) fn answer_search(input: &[u8]) {
-    match field::search(forms::rest(input, 2), forms::first_double(input)) {
+    match field::search(
+        forms::rest(input, forms::NUMBER_LENGTH),
+        forms::first_double(input),
+    ) {
         Found::Packet {
             packet,
             parity,
@@ -49,42 +52,30 @@ fn put_unit(place: usize, id: u8, length: u8) {
     text::item(length as u64);
 }
 
-// What stands at the end of a listing: the field's end, or a refusal.
-fn put_end(end: AnyUnit, length: usize) {
-    match end {
-        AnyUnit::Whole {
-            id: _,
-            length: _,
-            after: _,
-        } => {}
-        AnyUnit::End => {
-            text::put(b"end ");
-            text::number(length as u64);
-        }
-        AnyUnit::NoField => text::put(b"refused 14"),
-        AnyUnit::PastField => text::put(b"refused 17"),
-        AnyUnit::Short(place) => {
-            text::put(b"refused ");
-            put_at(15, place);
-        }
-        AnyUnit::WrongLength(place) => {
-            text::put(b"refused ");
-            put_at(16, place);
-        }
-    }
+fn put_end(length: usize) {
+    text::put(b"end ");
+    text::number(length as u64);
 }
 
+fn put_refused_at(number: u64, place: usize) {
+    text::put(b"refused ");
+    put_at(number, place);
+}
+
+// What stands at a place of the field.
 fn list_one(field: &[u8], place: usize) -> Next {
-    let unit = field::unit_at(field, place);
-    if let AnyUnit::Whole { id, length, after } = unit {
-        put_unit(place, id, length);
-        return Next {
-            place: after,
-            more: true,
-        };
+    match field::unit_at(field, place) {
+        AnyUnit::Whole { id, length, after } => {
+            put_unit(place, id, length);
+            return Next::At(after);
+        }
+        AnyUnit::End => put_end(field.len()),
+        AnyUnit::NoField => text::put(b"refused 14"),
+        AnyUnit::PastField => text::put(b"refused 17"),
+        AnyUnit::Short(at) => put_refused_at(15, at),
+        AnyUnit::WrongLength(at) => put_refused_at(16, at),
     }
-    put_end(unit, field.len());
-    Next { place, more: false }
+    Next::Stop
 }
 
 // All units. The count of turns is there so that the loop is seen to end: each turn passes a unit.
@@ -92,11 +83,10 @@ pub(crate) fn answer_units(field: &[u8]) {
     let mut place = 0;
     let mut turns = u64::MAX;
     while turns > 0 {
-        let next = list_one(field, place);
-        if !next.more {
-            return;
+        match list_one(field, place) {
+            Next::At(after) => place = after,
+            Next::Stop => return,
         }
-        place = next.place;
         turns -= 1;
     }
 }

@@ -1,4 +1,4 @@
--- `replay::answer_all` is safe and ends: the turns left fall.
+-- `replay::answer_all` is safe and ends: the turns left fall, and what is lent keeps its length.
 use mathlib.Core.Path.{_≡_}
 use lib.ListN.{length}
 use borrow.Author.Needs.{needs}
@@ -6,10 +6,10 @@ use Rattle.replay.proofs.answer_all.Statement.{statement}
 use Rattle.replay.proofs.answer_all.Tie as tie
 
 abbrev Inv-loop : tie.InvT-loop
-Inv-loop text₀ room₀ spare₀ turns₀ text room spare turns = (length text₀ ≡ length text) × (length room₀ ≡ length room) × (length spare₀ ≡ length spare)
+Inv-loop line₀ room₀ spare₀ turns₀ line room spare turns = (length line₀ ≡ length line) × (length room₀ ≡ length room) × (length spare₀ ≡ length spare)
 
 abbrev μ-loop : tie.MeasureT-loop
-μ-loop text₀ room₀ spare₀ turns₀ text room spare turns = turns
+μ-loop line₀ room₀ spare₀ turns₀ line room spare turns = turns
 
 loop-holds : tie.Need-loop-holds Inv-loop μ-loop
 loop-holds c = search needs

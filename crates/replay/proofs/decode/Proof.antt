@@ -1,4 +1,4 @@
--- `replay::decode` is safe and ends: the bytes left fall, and the digits lie within the room.
+-- `replay::decode` is safe and ends: the digits lie within the room, which keeps its length, and the bytes left fall.
 use mathlib.Core.Path.{_≡_}
 use borrow.Author.Needs.{needs}
 use Prim.Native.Nat.{_-_}

@@ -1,4 +1,4 @@
--- `replay::read_input` is safe: the parts lie within what they are parts of.
+-- `replay::read_input` is safe: the digits of at most 65,535 bytes, and a line feed, lie within the room for them.
 
 use mathlib.Core.Path.{sym}
 use lib.Seq.{length-take-le}

@@ -1,4 +1,4 @@
--- `replay::lending::fill` is safe and ends: the bytes left fall.
+-- `replay::lending::fill` is safe and ends: the record keeps its length, and the bytes left fall.
 use mathlib.Core.Path.{_≡_}
 use borrow.Author.Needs.{needs}
 use Prim.Native.Nat.{_-_}

@@ -1,4 +1,4 @@
--- `replay::lending::lend` is safe: the parts lie within what they are parts of.
+-- `replay::lending::lend` is safe: the part lies within the room.
 
 use mathlib.Core.Path.{sym}
 use lib.Seq.{length-take-le}

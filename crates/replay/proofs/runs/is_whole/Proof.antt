@@ -9,6 +9,9 @@ Inv-loop input place₀ left₀ place left = Unit {0}
 abbrev μ-loop : tie.MeasureT-loop
 μ-loop input place₀ left₀ place left = left
 
+returns : tie.Need-returns Inv-loop μ-loop
+returns c = search needs
+
 byte-at-requires : tie.Need-byte-at-requires Inv-loop μ-loop
 byte-at-requires c κs = search needs
 
@@ -18,8 +21,8 @@ loop-holds c = search needs
 after-line-requires : tie.Need-after-line-requires Inv-loop μ-loop
 after-line-requires c κs = search needs
 
-returns : tie.Need-returns Inv-loop μ-loop
-returns c = search needs
+returns-2 : tie.Need-returns-2 Inv-loop μ-loop
+returns-2 c = search needs
 
 sub-left : tie.Need-sub-left Inv-loop μ-loop
 sub-left c = search needs
@@ -30,8 +33,8 @@ loop-less c = search needs
 loop-again : tie.Need-loop-again Inv-loop μ-loop
 loop-again c = search needs
 
-returns-2 : tie.Need-returns-2 Inv-loop μ-loop
-returns-2 c = search needs
+returns-3 : tie.Need-returns-3 Inv-loop μ-loop
+returns-3 c = search needs
 
 pub is-whole-spec : {M : Type 1} → statement M
 is-whole-spec =
@@ -39,11 +42,12 @@ is-whole-spec =
     (tie.spec
     Inv-loop
     μ-loop
+    returns
     byte-at-requires
     loop-holds
     after-line-requires
-    returns
+    returns-2
     sub-left
     loop-less
     loop-again
-    returns-2)
+    returns-3)

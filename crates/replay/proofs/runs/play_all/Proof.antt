@@ -1,4 +1,4 @@
--- `replay::runs::play_all` is safe and ends: the turns left fall.
+-- `replay::runs::play_all` is safe and ends: the turns left fall, and what is lent keeps its length.
 use mathlib.Core.Path.{_≡_}
 use lib.ListN.{length}
 use borrow.Author.Needs.{needs}

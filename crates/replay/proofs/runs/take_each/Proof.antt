@@ -1,4 +1,4 @@
--- `replay::runs::take_each` is safe and ends: the lines left fall.
+-- `replay::runs::take_each` is safe and ends: the lines left fall, and what is lent keeps its length.
 use mathlib.Core.Path.{_≡_}
 use lib.ListN.{length}
 use borrow.Author.Needs.{needs}

@@ -1,4 +1,4 @@
--- `replay::text::hex` is safe and ends: the bytes left fall.
+-- `replay::text::hex` is safe and ends: a chunk is within the bytes left, which fall.
 use borrow.Author.Needs.{needs}
 use Prim.Native.Nat.{_≤_, _-_}
 use lib.ListN.{length}

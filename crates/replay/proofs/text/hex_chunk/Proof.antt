@@ -1,4 +1,4 @@
--- `replay::text::hex_chunk` is safe and ends: twice as many letters as bytes lie within the array.
+-- `replay::text::hex_chunk` is safe and ends: the letters of at most 1,024 bytes lie within their array, and the bytes left fall.
 use mathlib.Core.Path.{_≡_, sym}
 use borrow.Author.Needs.{needs}
 use Prim.Native.Nat.{_≤_, _-_}

@@ -15,6 +15,12 @@ loop-holds c = search needs
 list-one-requires : tie.Need-list-one-requires Inv-loop μ-loop
 list-one-requires c κs = search needs
 
+enum-known-after : tie.Need-enum-known-after Inv-loop μ-loop
+enum-known-after c = search needs
+
+enum-told : tie.Need-enum-told Inv-loop μ-loop
+enum-told c = search needs
+
 returns : tie.Need-returns Inv-loop μ-loop
 returns c = search needs
 
@@ -38,6 +44,8 @@ answer-units-spec =
     μ-loop
     loop-holds
     list-one-requires
+    enum-known-after
+    enum-told
     returns
     sub-turns
     loop-less
