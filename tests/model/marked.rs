@@ -1,0 +1,134 @@
+//! The thirteen marked cases of document 01, and the counts of Hamming bytes.
+
+use crate::bits::{character, exact, framing_passes, message, test_d, SENT};
+use crate::display::{display, pattern, Cell, Symbol};
+use crate::packet::{address, zero_header, Address};
+use crate::receiver::{new_receiver, Selection};
+use crate::record::{write_page, Page};
+
+/// The address of a packet that begins with these bytes (after turning).
+fn address_of(first: u8, second: u8) -> Address {
+    let mut packet = vec![0; 42];
+    packet[0] = crate::bits::turned(first);
+    packet[1] = crate::bits::turned(second);
+    address(&packet)
+}
+
+/// The cells of a row that begins with these codes.
+fn cells(codes: &[u8]) -> Vec<Cell> {
+    let mut row = codes.to_vec();
+    row.resize(40, 0x20);
+    display(&row).1
+}
+
+/// A corrected byte: its message is this and it is not exact.
+fn corrects_to(byte: u8, wanted: u8) -> bool {
+    message(byte) == Some(wanted) && !exact(byte)
+}
+
+/// Is this cell this mosaic, contiguous, in this colour?
+fn mosaic(cell: &Cell, pattern: u8, foreground: u8) -> bool {
+    cell.symbol == Symbol::Mosaic { pattern, separated: false } && cell.foreground == foreground
+}
+
+/// Case 10.
+fn case_10() -> bool {
+    let row = cells(&[0x11, 0x7F, 0x1E, 0x12, 0x20]);
+    row[0].symbol == Symbol::Letter(0x20)
+        && mosaic(&row[1], 63, 1)
+        && mosaic(&row[2], 63, 1)
+        && mosaic(&row[3], 63, 1)
+        && mosaic(&row[4], 0, 2)
+}
+
+/// Case 11.
+fn case_11() -> bool {
+    let row = cells(&[0x0B, 0x0B, 0x41, 0x0A, 0x0A]);
+    (0..40).all(|column| row[column].boxed == (1..=3).contains(&column))
+}
+
+/// Case 12.
+fn case_12() -> bool {
+    let a = cells(&[0x01, 0x1D, 0x41])[2];
+    a.symbol == Symbol::Letter(0x41) && a.foreground == 1 && a.background == 1
+}
+
+/// Case 13.
+fn case_13() -> bool {
+    let (_, receiver) = new_receiver(&Selection { magazine: 1, tens: 0, units: 0, time: None });
+    let page = Page {
+        magazine: 1,
+        header: zero_header(),
+        clean: true,
+        characters: receiver.characters,
+        marks: receiver.marks,
+    };
+    let mut record = vec![0xAA; 1085];
+    let number = write_page(&page, &mut record);
+    number == 0
+        && record[..5] == [0x20, 0, 0, 0, 0x10]
+        && record[5..14] == [0x10, 0x08, 0x04, 0x02, 0x01, 0x00, 0x80, 0x40, 0x20]
+}
+
+/// Each marked case, in the paper's order.
+fn marked_cases() -> Vec<bool> {
+    vec![
+        message(0x15) == Some(0) && message(0xEA) == Some(15) && exact(0x15) && exact(0xEA),
+        corrects_to(0x14, 0) && corrects_to(0x55, 0),
+        message(0x16).is_none(),
+        corrects_to(0x00, 1) && corrects_to(0xFF, 14),
+        address_of(0x02, 0x15) == Address::Whole { magazine: 1, row: 0 },
+        address_of(0xD0, 0x9B) == Address::Whole { magazine: 8, row: 23 },
+        character(0xC1) == Some(0x41) && character(0x41).is_none(),
+        framing_passes(0xE4) && framing_passes(0xE5) && !framing_passes(0xE7) && !framing_passes(0x1B),
+        pattern(0x35) == 21 && pattern(0x60) == 32 && pattern(0x7F) == 63,
+        case_10(),
+        case_11(),
+        case_12(),
+        case_13(),
+    ]
+}
+
+/// Of 256 bytes, how many are exact, corrected, refused.
+fn counts() -> (usize, usize, usize) {
+    let all = || 0..=255u8;
+    (
+        all().filter(|byte| exact(*byte)).count(),
+        all().filter(|byte| !exact(*byte) && message(*byte).is_some()).count(),
+        all().filter(|byte| message(*byte).is_none()).count(),
+    )
+}
+
+/// The published bytes are the exact ones, and a corrected byte is one bit away from its own.
+fn table_agrees() -> bool {
+    (0..=255u8).all(|byte| match message(byte) {
+        Some(m) => (byte ^ SENT[m as usize]).count_ones() == !test_d(byte) as u32,
+        None => SENT.iter().all(|sent| (byte ^ sent).count_ones() >= 2),
+    })
+}
+
+/// The lister's two inputs of the paper.
+fn lister_agrees() -> bool {
+    crate::answers::answer('u', &[0x99, 0xFF, 0x00]) == "unit 1 255 0 end 3"
+        && crate::answers::answer('u', &[0x10, 0xFF, 0x00]) == "refused 16 1"
+}
+
+/// Print how many of the thirteen hold, and whatever fails.
+pub fn print() {
+    let cases = marked_cases();
+    for (k, holds) in cases.iter().enumerate() {
+        if !holds {
+            println!("case {} fails", k + 1);
+        }
+    }
+    if counts() != (16, 128, 112) {
+        println!("counts fail: {:?}", counts());
+    }
+    if !table_agrees() {
+        println!("the table of messages fails");
+    }
+    if !lister_agrees() {
+        println!("the lister's inputs fail");
+    }
+    println!("{} of {}", cases.iter().filter(|holds| **holds).count(), cases.len());
+}

@@ -1,0 +1,136 @@
+//! The text of cases and answers: hexadecimal words and the shared pieces as bytes.
+
+use crate::packet::{zero_header, Header};
+use crate::receiver::{Answer, Receiver, Selection, TimeCode};
+use crate::record::{Page, CELLS};
+
+pub const RECEIVER_LENGTH: usize = 1938;
+pub const PAGE_LENGTH: usize = 1930;
+
+/// Bytes in hexadecimal, two lower-case digits each.
+pub fn hex(bytes: &[u8]) -> String {
+    let digits = b"0123456789abcdef";
+    let mut out = String::with_capacity(bytes.len() * 2);
+    for byte in bytes {
+        out.push(digits[(byte / 16) as usize] as char);
+        out.push(digits[(byte % 16) as usize] as char);
+    }
+    out
+}
+
+/// A case line without its line feed: sort, count, bytes.
+pub fn case_line(sort: char, input: &[u8]) -> String {
+    assert!(input.len() <= 12_000, "an input has at most 12,000 bytes");
+    format!("{} {:04x} {}", sort, input.len(), hex(input))
+}
+
+/// A number of two bytes, high byte first.
+pub fn two_bytes(number: usize) -> [u8; 2] {
+    [(number / 256) as u8, (number % 256) as u8]
+}
+
+/// The number of two bytes.
+pub fn of_two_bytes(bytes: &[u8]) -> usize {
+    bytes[0] as usize * 256 + bytes[1] as usize
+}
+
+/// SELECTION, 8 bytes.
+pub fn selection_bytes(selection: &Selection) -> Vec<u8> {
+    let mut out = vec![selection.magazine, selection.tens, selection.units];
+    match &selection.time {
+        None => out.extend([0, 0, 0, 0, 0]),
+        Some(t) => out.extend([1, t.hours_tens, t.hours_units, t.minutes_tens, t.minutes_units]),
+    }
+    out
+}
+
+/// SELECTION back.
+pub fn selection_of(x: &[u8]) -> Selection {
+    let time = TimeCode { hours_tens: x[4], hours_units: x[5], minutes_tens: x[6], minutes_units: x[7] };
+    Selection { magazine: x[0], tens: x[1], units: x[2], time: if x[3] == 1 { Some(time) } else { None } }
+}
+
+/// HEADER, 8 bytes.
+pub fn header_bytes(h: &Header) -> Vec<u8> {
+    let mut out = vec![h.tens, h.units, h.hours_tens, h.hours_units, h.minutes_tens, h.minutes_units];
+    out.extend(two_bytes(h.control as usize));
+    out
+}
+
+/// HEADER back.
+pub fn header_of(x: &[u8]) -> Header {
+    let mut h = zero_header();
+    h.tens = x[0];
+    h.units = x[1];
+    h.hours_tens = x[2];
+    h.hours_units = x[3];
+    h.minutes_tens = x[4];
+    h.minutes_units = x[5];
+    h.control = of_two_bytes(&x[6..8]) as u16;
+    h
+}
+
+/// RECEIVER, 1,938 bytes.
+pub fn receiver_bytes(receiver: &Receiver) -> Vec<u8> {
+    let mut out = selection_bytes(&receiver.selection);
+    out.push(receiver.open as u8);
+    out.push(receiver.doubt as u8);
+    out.extend(header_bytes(&receiver.header));
+    out.extend(&receiver.characters);
+    out.extend(&receiver.marks);
+    assert_eq!(out.len(), RECEIVER_LENGTH);
+    out
+}
+
+/// RECEIVER back.
+pub fn receiver_of(x: &[u8]) -> Receiver {
+    Receiver {
+        selection: selection_of(&x[0..8]),
+        open: x[8] == 1,
+        doubt: x[9] == 1,
+        header: header_of(&x[10..18]),
+        characters: x[18..18 + CELLS].to_vec(),
+        marks: x[18 + CELLS..18 + 2 * CELLS].to_vec(),
+    }
+}
+
+/// PAGE, 1,930 bytes.
+pub fn page_bytes(page: &Page) -> Vec<u8> {
+    let mut out = vec![page.magazine];
+    out.extend(header_bytes(&page.header));
+    out.push(page.clean as u8);
+    out.extend(&page.characters);
+    out.extend(&page.marks);
+    assert_eq!(out.len(), PAGE_LENGTH);
+    out
+}
+
+/// PAGE back.
+pub fn page_of(x: &[u8]) -> Page {
+    Page {
+        magazine: x[0],
+        header: header_of(&x[1..9]),
+        clean: x[9] == 1,
+        characters: x[10..10 + CELLS].to_vec(),
+        marks: x[10 + CELLS..10 + 2 * CELLS].to_vec(),
+    }
+}
+
+/// "A lent record of n bytes is n times AA before the call."
+pub fn lent_record(length: usize) -> Vec<u8> {
+    vec![0xAA; length]
+}
+
+/// ANSWER, four words.
+pub fn answer_words(a: &Answer) -> String {
+    format!("{} {} {} {}", a.number, a.kind, a.count, a.closing)
+}
+
+/// SAME-OR-HEX.
+pub fn same_or_hex(before: &[u8], after: &[u8]) -> String {
+    if before == after {
+        "same".to_string()
+    } else {
+        hex(after)
+    }
+}
