@@ -1,5 +1,8 @@
 -- For the contracts of private functions: no promise rests on these words.
+use mathlib.Core.Bool.{Bool, cond}
 use Prim.Native.Nat.{ℕ}
+use Rattle.display.specs.declared.RowAnswer.{RowAnswer}
+use Rattle.display.specs.declared.RowAnswer.the-variants.{Shown, Refused}
 use Rattle.display.specs.declared.state.RowState.{RowState}
 use Rattle.display.specs.declared.Symbol.{Symbol}
 
@@ -19,3 +22,7 @@ passed state held code =
       held = held;
       before = code;
     }
+
+-- the answer for a row that is shown, or is not
+abbrev pub answerIf : Bool → RowAnswer
+answerIf shown = cond shown Shown Refused
