@@ -1,14 +1,15 @@
 -- A row code by code: what one more code does to the definitions that go along the whole of it.
 use mathlib.Core.Path.{_≡_, refl, _∙_, sym, ap}
-use mathlib.Core.Bool.{Bool, true, false, cond, _&&_, false≢true}
+use mathlib.Core.Bool.{Bool, true, false, not, cond, _&&_, _||_, false≢true}
 use mathlib.Core.List.{List, [], _∷_, _++_, append-assoc}
 use Prim.Native.Nat.{ℕ, suc, _+_, _<_, _≤_}
 use native.Mathlib.Numerals.{add-one}
 use native.Mathlib.Omega.{arith}
 use borrow.Author.Tests.{eqb-true}
-use lib.Dec.{eqb, leb}
+use lib.Dec.{eqb, leb, ltb}
 use lib.ListN.{length, getD, take, drop, set, take-append-drop}
 use lib.Seq.{drop-cons, take-suc-set, take-append-le, take-take, drop-drop, length-take-le}
+use Rattle.laws.proofs.Opposite.{at-most-is}
 use Rattle.display.specs.Display.{ownCell, shown, cell, afterCell, cellAt, next, along, columns, allCodes, isRow, zeroCells}
 use Rattle.display.specs.declared.Cell.{Cell}
 use Rattle.display.specs.declared.state.RowState.{RowState}
@@ -40,6 +41,15 @@ codes-cons code codes = refl
 -- from a place on, the codes are the one at the place and those after it
 pub codes-from : (codes : List ℕ) (i : ℕ) → i < length codes → allCodes (drop i codes) ≡ leb (getD codes i 0) 0x7F && allCodes (drop (i + 1) codes)
 codes-from codes i h = ap allCodes (drop-cons codes i 0 h) ∙ rw (codes-cons, add-one)
+
+-- one code more asked, where a flag says whether one of those before it was too high
+neither : (high this rest : Bool) → not (high || this) && rest ≡ not high && (not this && rest)
+neither true this rest = refl
+neither false this rest = refl
+
+pub one-asked : (codes : List ℕ) (i : ℕ) → i < length codes → (high : Bool)
+    → not (high || ltb 0x7F (getD codes i 0)) && allCodes (drop (i + 1) codes) ≡ not high && allCodes (drop i codes)
+one-asked codes i h high = rw (codes-from codes i h, at-most-is (getD codes i 0) 0x7F) (neither high (ltb 0x7F (getD codes i 0)) (allCodes (drop (i + 1) codes)))
 
 pub along-from : (state : RowState) (codes : List ℕ) (i : ℕ) → i < length codes
     → along state (drop i codes) ≡ cellAt state (getD codes i 0) ∷ along (next state (getD codes i 0)) (drop (i + 1) codes)

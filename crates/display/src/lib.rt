@@ -45,21 +45,20 @@ pub struct Row {
     pub cells: [Cell; COLUMNS],
 }
 
-// Whether these are 40 codes of 00 to 7F.
+// Whether these are 40 codes of 00 to 7F. Every code is asked, with no branch, which is cheaper than to stop at the first that is none.
 fn is_row(codes: &[u8]) -> bool
     ensures { λ r. ⌜ r ≡ isRow (now (codes .entry)) ⌝ }
 {
     if codes.len() != COLUMNS {
         return false;
     }
+    let mut high = false;
     let mut column = 0;
-    while column < codes.len() {
-        if codes[column] > LAST_CODE {
-            return false;
-        }
+    while column < COLUMNS {
+        high = high | (codes[column] > LAST_CODE);
         column += 1;
     }
-    true
+    !high
 }
 
 fn zero_cells() -> [Cell; COLUMNS]
