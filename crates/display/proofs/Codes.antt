@@ -1,7 +1,7 @@
 -- Control codes, below 20, and printed ones, from 20 up: what of the rule each of them reaches. A printed code changes nothing of the state but the held
 -- mosaic and the code before.
 use mathlib.Core.Path.{_≡_, refl, sym, _∙_, ap}
-use mathlib.Core.Bool.{Bool, true, false, not, cond, _&&_, _||_, false≢true}
+use mathlib.Core.Bool.{Bool, true, false, not, cond, _&&_, _||_, and-false, false≢true}
 use Prim.Native.Nat.{ℕ, _<_, _≤_}
 use native.Mathlib.Omega.{arith}
 use borrow.Author.Tests.{lt-ltb, le-ltb, lt-leb, ne-eqb}
@@ -14,10 +14,6 @@ use Rattle.display.specs.declared.Symbol.{Symbol}
 use Rattle.display.specs.declared.Symbol.the-variants.{Letter}
 use Rattle.display.specs.declared.state.RowState.{RowState}
 use Rattle.display.proofs.Steps.{cellAt-is, next-is}
-
-and-false : (a : Bool) → a && false ≡ false
-and-false true = refl
-and-false false = refl
 
 -- what is held after a code with no effects after its cell: its own mosaic, or what was held
 abbrev pub heldAfter : RowState → ℕ → Symbol

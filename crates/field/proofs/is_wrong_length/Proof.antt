@@ -1,19 +1,10 @@
 -- `field::is_wrong_length` meets its contract: a length of 44 is wrong nowhere, and for any other the test is the definition's.
-use mathlib.Core.Bool.{Bool, true, false, _&&_}
-use mathlib.Core.Path.{_≡_, refl, sym, _∙_}
+use mathlib.Core.Bool.{and-true, and-false}
 use borrow.Author.Needs.{needs}
 use borrow.Author.Tests.{eq-eqb, ne-eqb}
 use Rattle.field.specs.Field.{wrongLength}
 use Rattle.field.proofs.is_wrong_length.Statement.{statement}
 use Rattle.field.proofs.is_wrong_length.Tie as tie
-
-and-false : (b : Bool) → (b && false) ≡ false
-and-false true = refl
-and-false false = refl
-
-and-true : (b : Bool) → (b && true) ≡ b
-and-true true = refl
-and-true false = refl
 
 returns : tie.Need-returns
 unfolding wrongLength
