@@ -1,8 +1,9 @@
 use mathlib.Core.Path.{_≡_, refl, _∙_, ap, sym}
-use mathlib.Core.Bool.{not, _&&_}
+use mathlib.Core.Bool.{Bool, not, _&&_, _||_}
 use Prim.Native.Nat.{_-_, _≤_}
 use native.Mathlib.Omega.{arith}
 use borrow.Author.Needs.{needs}
+use lib.Dec.{ltb}
 use lib.ListN.{length, drop}
 use Rattle.laws.specs.Every.{everyPair}
 use Rattle.page.specs.Lawful.{cellLawful, cellsFit, cellsLawful}
@@ -13,13 +14,13 @@ use Rattle.page.proofs.all_checked.Statement.{statement}
 use Rattle.page.proofs.all_checked.Tie as tie
 
 abbrev Inv-loop : tie.InvT-loop
-Inv-loop characters marks large₀ unlawful₀ at₀ large unlawful at =
+Inv-loop characters marks character-bits₀ mark-bits₀ unlawful₀ at₀ character-bits mark-bits unlawful at =
     (at ≤ 960) × (length characters ≡ 960) × (length marks ≡ 960)
-    × ((not large && cellsFit (cellsOf (drop at characters) (drop at marks))) ≡ cellsFit (cellsOf characters marks))
+    × ((not (ltb 127 character-bits || ltb 3 mark-bits) && cellsFit (cellsOf (drop at characters) (drop at marks))) ≡ cellsFit (cellsOf characters marks))
     × ((not unlawful && everyPair cellLawful (drop at marks) (drop at characters)) ≡ cellsLawful (cellsOf characters marks))
 
 abbrev μ-loop : tie.MeasureT-loop
-μ-loop characters marks large₀ unlawful₀ at₀ large unlawful at = 960 - at
+μ-loop characters marks character-bits₀ mark-bits₀ unlawful₀ at₀ character-bits mark-bits unlawful at = 960 - at
 
 header-columns-marked-requires : tie.Need-header-columns-marked-requires Inv-loop μ-loop
 header-columns-marked-requires c κs = search needs
@@ -29,9 +30,12 @@ module _ (c : tie.After-loop Inv-loop μ-loop) where
   cells : Cells
   cells = cellsOf (c .before .before .before .before .before .args .characters .now) (c .before .before .before .before .before .args .marks .now)
 
-  fit : cellsFit cells ≡ not (c .before .loop .large)
-  unfolding cells
-  fit = fit-last _ _ (c .before .loop .at) (omega arith) (omega arith) (c .before .loop .large) _ (c .before .loop .inv .3)
+  large : Bool
+  large = ltb 127 (c .before .loop .character-bits) || ltb 3 (c .before .loop .mark-bits)
+
+  fit : cellsFit cells ≡ not large
+  unfolding cells large
+  fit = fit-last _ _ (c .before .loop .at) (omega arith) (omega arith) large _ (c .before .loop .inv .3)
 
   lawful : cellsLawful cells ≡ not (c .before .loop .unlawful)
   unfolding cells
@@ -59,21 +63,21 @@ loop-again c =
       search needs,
       search needs,
       search needs,
-      sym (fit-more (args .characters .now) (args .marks .now) (here .at) (search needs) (search needs) (here .large)) ∙ here .inv .3,
+      sym (fit-more (args .characters .now) (args .marks .now) (here .at) (search needs) (search needs) (here .character-bits) (here .mark-bits)) ∙ here .inv .3,
       sym (lawful-more (args .characters .now) (args .marks .now) (here .at) (search needs) (search needs) (here .unlawful)) ∙ here .inv .4,
     )
 
 returns : tie.Need-returns Inv-loop μ-loop
-unfolding cells
+unfolding cells large
 returns c = sym (answer-large (cells (c .before)) (fit (c .before) ∙ ap not (c .if1 .taken)))
 
 returns-2 : tie.Need-returns-2 Inv-loop μ-loop
-unfolding cells
+unfolding cells large
 returns-2 c =
     sym (answer-unlawful (cells (c .before .before)) (fit (c .before .before) ∙ ap not (c .before .if1 .left)) (lawful (c .before .before) ∙ ap not (c .if2 .taken)))
 
 returns-3 : tie.Need-returns-3 Inv-loop μ-loop
-unfolding cells
+unfolding cells large
 returns-3 c =
     sym (answer-lawful (cells (c .before .before)) (fit (c .before .before) ∙ ap not (c .before .if1 .left)) (lawful (c .before .before) ∙ ap not (c .if2 .left)))
 
