@@ -118,7 +118,7 @@ fn header_columns_marked(marks: &[u8]) -> bool
 }
 
 // The check of all cells. It has no branch for a cell, so that many are asked at once. The bits that any of them has are gathered, and whether one is too
-// large is asked of these at the end.
+// large is asked of these at the end; of marks that are not, 3 alone is unlawful.
 fn all_checked(characters: &[u8], marks: &[u8]) -> CellsCheck
     requires { ⌜ (length (now characters) ≡ cellCount) × (length (now marks) ≡ cellCount) ⌝ }
     ensures { λ r. ⌜ r ≡ cellsChecked (cellsOf (now (characters .entry)) (now (marks .entry))) ⌝ }
@@ -132,7 +132,7 @@ fn all_checked(characters: &[u8], marks: &[u8]) -> CellsCheck
         let mark = marks[at];
         character_bits = character_bits | character;
         mark_bits = mark_bits | mark;
-        unlawful = unlawful | (mark > 2) | ((mark == 0) & (character != 32));
+        unlawful = unlawful | (mark == 3) | ((mark == 0) & (character != 32));
         at += 1;
     }
     if (character_bits > 127) | (mark_bits > 3) {
