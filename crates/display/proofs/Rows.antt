@@ -1,14 +1,16 @@
 -- Laws of a whole row: when it is shown and when it is refused, that it has always 40 cells, that its first cells depend on its first codes alone, and
 -- that a row of spaces is blank.
 use mathlib.Core.Path.{_≡_, refl, _∙_, sym, ap}
-use mathlib.Core.Bool.{Bool, true, false}
-use mathlib.Core.List.{List, [], _∷_}
+use mathlib.Core.Bool.{Bool, true, false, cond}
+use mathlib.Core.List.{List, [], _∷_, _++_, append-nil}
 use Prim.Native.Nat.{ℕ, zero, suc, _<_, _≤_}
 use native.Mathlib.Omega.{arith}
 use borrow.Author.Tests.{eq-eqb, le-leb}
-use lib.ListN.{length, getD, take, replicate}
+use lib.ListN.{length, getD, take, drop, replicate}
+use lib.Seq.{take-all}
 use Rattle.laws.specs.Paper.{accepted, refusedBy}
-use Rattle.display.specs.Display.{space, white, black, start, cellAt, next, along, columns, allCodes, isRow, zeroCells, displayed}
+use Rattle.display.specs.Display.{space, white, black, start, cellAt, next, along, columns, allCodes, isRow, zeroCells, displayed, Displayed, rowAnswerPaper}
+use Rattle.display.specs.Private.{answerIf}
 use Rattle.display.specs.declared.Cell.{Cell}
 use Rattle.display.specs.declared.state.RowState.{RowState}
 use Rattle.display.proofs.Steps.{along-none, along-cons, codes-none, codes-cons, row-length, zeros-length}
@@ -45,6 +47,15 @@ forty codes false e = rw (refused-row codes e) zeros-length
 -- the row has always 40 cells, shown or refused
 pub always-forty : (codes : List ℕ) → length (displayed codes .cells) ≡ columns
 always-forty codes = forty codes (isRow codes) refl
+
+-- the answer and the cells by whether the row is shown: all codes' cells, or zeros from the first cell on
+pub displayed-if : (codes : List ℕ) (shown : Bool) → isRow codes ≡ shown
+    → record { answer = rowAnswerPaper (answerIf shown); cells = take (cond shown columns 0) (along start codes) ++ drop (cond shown columns 0) zeroCells }
+    ≡ displayed codes
+unfolding rowAnswerPaper zeroCells
+displayed-if codes true e =
+    rw (shown-row codes e, take-all columns (along start codes) (rw (along-length, row-length codes e) (omega arith)), append-nil)
+displayed-if codes false e = rw (refused-row codes e)
 
 -- the first n cells are those of the first n codes, whatever comes after them
 pub first-cells : (n : ℕ) (state : RowState) (codes : List ℕ) → take n (along state codes) ≡ along state (take n codes)

@@ -1,13 +1,15 @@
 -- A row code by code: what one more code does to the definitions that go along the whole of it.
 use mathlib.Core.Path.{_≡_, refl, _∙_, sym, ap}
-use mathlib.Core.Bool.{Bool, true, false, _&&_, false≢true}
-use mathlib.Core.List.{List, [], _∷_, _++_, append-assoc, append-nil}
+use mathlib.Core.Bool.{Bool, true, false, not, cond, _&&_, _||_, false≢true}
+use mathlib.Core.List.{List, [], _∷_, _++_, append-assoc}
 use Prim.Native.Nat.{ℕ, suc, _+_, _<_, _≤_}
 use native.Mathlib.Numerals.{add-one}
+use native.Mathlib.Omega.{arith}
 use borrow.Author.Tests.{eqb-true}
-use lib.Dec.{eqb, leb}
-use lib.ListN.{length, getD, take, drop, set, drop-of-length-le}
-use lib.Seq.{drop-cons, take-suc-set, take-all}
+use lib.Dec.{eqb, leb, ltb}
+use lib.ListN.{length, getD, take, drop, set, take-append-drop}
+use lib.Seq.{drop-cons, take-suc-set, take-append-le, take-take, drop-drop, length-take-le}
+use Rattle.laws.proofs.Opposite.{at-most-is}
 use Rattle.display.specs.Display.{ownCell, shown, cell, afterCell, cellAt, next, along, columns, allCodes, isRow, zeroCells}
 use Rattle.display.specs.declared.Cell.{Cell}
 use Rattle.display.specs.declared.state.RowState.{RowState}
@@ -40,20 +42,36 @@ codes-cons code codes = refl
 pub codes-from : (codes : List ℕ) (i : ℕ) → i < length codes → allCodes (drop i codes) ≡ leb (getD codes i 0) 0x7F && allCodes (drop (i + 1) codes)
 codes-from codes i h = ap allCodes (drop-cons codes i 0 h) ∙ rw (codes-cons, add-one)
 
+-- one code more asked, where a flag says whether one of those before it was too high
+neither : (high this rest : Bool) → not (high || this) && rest ≡ not high && (not this && rest)
+neither true this rest = refl
+neither false this rest = refl
+
+pub one-asked : (codes : List ℕ) (i : ℕ) → i < length codes → (high : Bool)
+    → not (high || ltb 0x7F (getD codes i 0)) && allCodes (drop (i + 1) codes) ≡ not high && allCodes (drop i codes)
+one-asked codes i h high = rw (codes-from codes i h, at-most-is (getD codes i 0) 0x7F) (neither high (ltb 0x7F (getD codes i 0)) (allCodes (drop (i + 1) codes)))
+
 pub along-from : (state : RowState) (codes : List ℕ) (i : ℕ) → i < length codes
     → along state (drop i codes) ≡ cellAt state (getD codes i 0) ∷ along (next state (getD codes i 0)) (drop (i + 1) codes)
 along-from state codes i h = ap (along state) (drop-cons codes i 0 h) ∙ rw (along-cons, add-one)
 
--- cells that are filled up to a place, with what is left to work out: one more of them, and all of them
+-- cells that are filled up to a place, with what is left to work out: one more of them
 pub one-more : (cells : List Cell) (state : RowState) (codes : List ℕ) (i : ℕ) → i < length cells → i < length codes
     → take (i + 1) (set cells i (cellAt state (getD codes i 0))) ++ along (next state (getD codes i 0)) (drop (i + 1) codes)
     ≡ take i cells ++ along state (drop i codes)
 one-more cells state codes i h k =
     rw (along-from state codes i k, add-one, take-suc-set, append-assoc)
 
-pub all-done : (cells : List Cell) (state : RowState) (codes : List ℕ) (i : ℕ) → length cells ≤ i → length codes ≤ i
-    → take i cells ++ along state (drop i codes) ≡ cells
-all-done cells state codes i h k = rw (take-all, drop-of-length-le codes k, along-none, append-nil)
+-- cells that are as others from a place on are so from the next place on
+pub one-less : (i : ℕ) (cells others : List Cell) → drop i cells ≡ drop i others → drop (i + 1) cells ≡ drop (i + 1) others
+one-less i cells others e = sym (drop-drop 1 i cells) ∙ (ap (drop 1) e ∙ drop-drop 1 i others)
+
+-- cells that are filled up to a place, and that are as others from there on
+pub filled-to : (i : ℕ) (cells rest whole others : List Cell) → i ≤ length cells → take i cells ++ rest ≡ whole → drop i cells ≡ drop i others
+    → take i whole ++ drop i others ≡ cells
+filled-to i cells rest whole others h w e =
+    rw (← w, take-append-le i (take i cells) rest (rw (length-take-le i cells h) (omega arith)), take-take i i cells (omega arith), ← e)
+    (take-append-drop i cells)
 
 -- a row has 40 codes, each of 00 to 7F
 pub both-true : (a b : Bool) → a && b ≡ true → (a ≡ true) × (b ≡ true)
@@ -72,3 +90,9 @@ row-length codes e = row-is codes e .0
 pub zeros-length : length zeroCells ≡ columns
 unfolding zeroCells
 zeros-length = refl
+
+module _ (codes : List ℕ) where
+  -- where a row is shown it has as many codes as are shown, and no more than 40 are
+  pub count-fits : (shown : Bool) → isRow codes ≡ shown → (cond shown columns 0 ≤ length codes) × (cond shown columns 0 ≤ columns)
+  count-fits true e = (rw (row-length codes e) (omega arith), omega arith)
+  count-fits false e = (omega arith, omega arith)

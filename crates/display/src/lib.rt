@@ -2,8 +2,12 @@
 mod state;
 
 ghost use mathlib.Core.Path.{_≡_};
-ghost use lib.ListN.{length};
+ghost use mathlib.Core.Bool.{cond};
+ghost use mathlib.Core.List.{_++_};
+ghost use Prim.Native.Nat.{_≤_};
+ghost use lib.ListN.{length, take, drop};
 ghost use Rattle.display.specs.Display.{start, along, columns, isRow, zeroCells, displayed, rowPaper};
+ghost use Rattle.display.specs.Private.{answerIf};
 use state::RowState;
 
 // The cells of a row.
@@ -41,21 +45,20 @@ pub struct Row {
     pub cells: [Cell; COLUMNS],
 }
 
-// Whether these are 40 codes of 00 to 7F.
+// Whether these are 40 codes of 00 to 7F. Every code is asked, with no branch, which is cheaper than to stop at the first that is none.
 fn is_row(codes: &[u8]) -> bool
     ensures { λ r. ⌜ r ≡ isRow (now (codes .entry)) ⌝ }
 {
     if codes.len() != COLUMNS {
         return false;
     }
+    let mut high = false;
     let mut column = 0;
-    while column < codes.len() {
-        if codes[column] > LAST_CODE {
-            return false;
-        }
+    while column < COLUMNS {
+        high = high | (codes[column] > LAST_CODE);
         column += 1;
     }
-    true
+    !high
 }
 
 fn zero_cells() -> [Cell; COLUMNS]
@@ -74,15 +77,33 @@ fn zero_cells() -> [Cell; COLUMNS]
     [zero; COLUMNS]
 }
 
-// The cells of a row's codes, one step for each.
-fn cells_of(codes: &[u8]) -> [Cell; COLUMNS]
-    requires { ⌜ length (now codes) ≡ columns ⌝ }
-    ensures { λ r. ⌜ r ≡ along start (now (codes .entry)) ⌝ }
+// How many of a row's codes are shown: all, or none where it is refused.
+fn count_if(shown: bool) -> usize
+    ensures { λ r. ⌜ r ≡ cond shown columns 0 ⌝ }
+{
+    if shown { COLUMNS } else { 0 }
+}
+
+fn answer_if(shown: bool) -> RowAnswer
+    ensures { λ r. ⌜ r ≡ answerIf shown ⌝ }
+{
+    if shown {
+        RowAnswer::Shown
+    } else {
+        RowAnswer::Refused
+    }
+}
+
+// The cells of the first codes, one step for each, and zeros after them: so that one array serves a row that is shown and one that is refused, and is
+// not copied.
+fn cells_of(codes: &[u8], count: usize) -> [Cell; COLUMNS]
+    requires { ⌜ (count ≤ length (now codes)) × (count ≤ columns) ⌝ }
+    ensures { λ r. ⌜ r ≡ take count (along start (now (codes .entry))) ++ drop count zeroCells ⌝ }
 {
     let mut cells = zero_cells();
     let mut state = RowState::start();
     let mut column = 0;
-    while column < COLUMNS {
+    while column < count {
         let step = state.step(codes[column]);
         let cell = step.cell;
         cells[column] = cell;
@@ -97,17 +118,8 @@ fn cells_of(codes: &[u8]) -> [Cell; COLUMNS]
 pub fn row_of(codes: &[u8]) -> Row
     ensures { λ r. ⌜ rowPaper r ≡ displayed (now (codes .entry)) ⌝ }
 {
-    if is_row(codes) {
-        let cells = cells_of(codes);
-        Row {
-            answer: RowAnswer::Shown,
-            cells,
-        }
-    } else {
-        let cells = zero_cells();
-        Row {
-            answer: RowAnswer::Refused,
-            cells,
-        }
-    }
+    let shown = is_row(codes);
+    let cells = cells_of(codes, count_if(shown));
+    let answer = answer_if(shown);
+    Row { answer, cells }
 }

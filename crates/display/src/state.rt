@@ -1,10 +1,11 @@
 // The state along a row, and one step of it: effects at the code's own cell, what is shown, effects after the cell. Letters and mosaics, which most
-// codes are, have no effects and go a short way of their own; a control code's effects are chosen without a branch, one way for all of them.
+// codes are, have no effects and go a short way of their own. A control code has effects at its own cell or after it and never both, so that it goes one of
+// two ways; which effects it has there is chosen without a branch.
 ghost use mathlib.Core.Path.{_≡_};
 ghost use mathlib.Core.Bool.{cond};
 ghost use Prim.Native.Nat.{_<_, _≤_};
 ghost use Rattle.display.specs.Display.{start, blank, ownCell, pattern, givesPattern, mosaic, shownControl, cell, afterCell, cellAt, next};
-ghost use Rattle.display.specs.Private.{passed};
+ghost use Rattle.display.specs.Private.{passed, actsAtOnce};
 use crate::Cell;
 use crate::Symbol;
 
@@ -57,6 +58,13 @@ fn pattern_of(code: u8) -> u8
     ensures { λ r. ⌜ r ≡ pattern code ⌝ }
 {
     code % 32 + code / 64 % 2 * 32
+}
+
+// Whether a control code's effects, if it has any, are at its own cell; those of every other are after it.
+fn acts_at_once(code: u8) -> bool
+    ensures { λ r. ⌜ r ≡ actsAtOnce code ⌝ }
+{
+    (0x09 <= code) & (code <= 0x0C) | (0x18 <= code) & (code <= 0x1E)
 }
 
 impl RowState {
@@ -170,7 +178,7 @@ impl RowState {
         }
     }
 
-    // The state after a code of 20 or more: it changes what is held at most.
+    // The state after a code that has no effects after its cell: it changes what is held at most.
     fn passed(self, held: Symbol, code: u8) -> RowState
         ensures { λ r. ⌜ r ≡ passed self held code ⌝ }
     {
@@ -189,16 +197,24 @@ impl RowState {
         }
     }
 
-    // The cell of a control code, with its effects before and after.
+    // The cell of a control code, with its effects before or after.
     fn control(self, code: u8) -> Step
         requires { ⌜ code < 0x20 ⌝ }
         ensures { λ r. ⌜ (r .cell ≡ cellAt self code) × (r .next ≡ next self code) ⌝ }
     {
-        let own = self.own_cell(code);
-        let symbol = own.shown_control();
-        let cell = own.cell(symbol);
-        let next = own.after_cell(code);
-        Step { cell, next }
+        if acts_at_once(code) {
+            let own = self.own_cell(code);
+            let symbol = own.shown_control();
+            let cell = own.cell(symbol);
+            let held = own.held;
+            let next = own.passed(held, code);
+            Step { cell, next }
+        } else {
+            let symbol = self.shown_control();
+            let cell = self.cell(symbol);
+            let next = self.after_cell(code);
+            Step { cell, next }
+        }
     }
 
     // The cell of a letter or a mosaic: a mosaic becomes held, a letter leaves what is held.

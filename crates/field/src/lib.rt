@@ -90,8 +90,10 @@ fn offset_passes(offset: u8) -> bool
 fn is_wrong_length(identifier: u8, id: u8, length: u8) -> bool
     ensures { λ r. ⌜ r ≡ wrongLength identifier id length ⌝ }
 {
-    (is_low(identifier) | is_high(identifier) & (is_teletext(id) | (id == 0xC0)))
-        & (length != LENGTH)
+    if length == LENGTH {
+        return false;
+    }
+    is_low(identifier) | is_high(identifier) & (is_teletext(id) | (id == 0xC0))
 }
 
 // 14, then 17, and place 0 as the first unit's.

@@ -1,16 +1,20 @@
 -- The checks of 24 and 23 cell by cell, and what each answer shows.
-use mathlib.Core.Path.{_≡_, refl, _∙_, sym}
+use mathlib.Core.Path.{_≡_, refl, _∙_, sym, subst}
 use mathlib.Core.Bool.{Bool, true, false, not, cond, _&&_, _||_, Bool·not-not, and-comm, and-true, or-assoc, or-false}
-use mathlib.Core.List.{List}
-use Prim.Native.Nat.{ℕ, suc, _+_, _<_, _≤_}
+use mathlib.Core.List.{List, [], _∷_}
+use Prim.Native.Nat.{ℕ, zero, suc, _+_, _^_, _<_, _≤_}
+use native.Mathlib.Nat.{le-trans}
 use native.Mathlib.Numerals.{add-one}
 use native.Mathlib.Omega.{arith}
-use lib.Dec.{eqb, ltb}
+use borrow.Author.Tests.{leb-true, leb-false, le-leb, lt-leb}
+use lib.Bits.{bitOr, or-add-and, or-lt, and-le-l, and-le-r}
+use lib.Dec.{T, eqb, leb, ltb, ltb→lt}
 use lib.ListN.{length, getD, take, drop, drop-of-length-le}
 use lib.Seq.{drop-cons}
 use Rattle.laws.specs.Every.{every, everyPair}
 use Rattle.laws.specs.Fields.{fits}
-use Rattle.laws.proofs.Opposite.{not-and, below-is, at-most-is}
+use Rattle.laws.proofs.Bools.{both-left, both-right}
+use Rattle.laws.proofs.Opposite.{not-and, below-is}
 use Rattle.laws.proofs.Runs.{part-is}
 use Rattle.page.specs.Lawful.{cellLawful, cellsChecked, cellsFit, cellsLawful, isNever}
 use Rattle.page.specs.Records.{cellsOf}
@@ -27,14 +31,61 @@ pub header-columns : (marks : List ℕ) → 8 ≤ length marks
 unfolding every isNever
 header-columns marks h = simp (or-assoc, not-and, or-false, ← part-is marks 0 8 h)
 
+-- ---- marks that fit their bits: 3 alone is unlawful
+
+abbrev pub cellSound : ℕ → ℕ → Bool
+cellSound mark character = not (eqb mark 3) && (not (eqb mark 0) || eqb character 32)
+
+abbrev pub cellsSound : Cells → Bool
+cellsSound cells = everyPair cellSound (cells .marks) (cells .characters) && every isNever (take 8 (cells .marks))
+
+mark-sound : (mark : ℕ) → T (ltb mark 4) → not (eqb mark 3) ≡ leb mark 2
+mark-sound zero t = refl
+mark-sound (suc zero) t = refl
+mark-sound (suc (suc zero)) t = refl
+mark-sound (suc (suc (suc zero))) t = refl
+mark-sound (suc (suc (suc (suc mark)))) t = absurd (let h = ltb→lt (suc (suc (suc (suc mark)))) 4 t in omega arith)
+
+each-sound : (marks characters : List ℕ) → T (every (fits 2) marks) → everyPair cellSound marks characters ≡ everyPair cellLawful marks characters
+unfolding everyPair every fits cellLawful
+each-sound [] [] t = refl
+each-sound [] (x ∷ xs) t = refl
+each-sound (m ∷ ms) [] t = refl
+each-sound (m ∷ ms) (x ∷ xs) t =
+    rw (mark-sound m (both-left (ltb m 4) (every (fits 2) ms) t), each-sound ms xs (both-right (ltb m 4) (every (fits 2) ms) t))
+
+pub sound-lawful : (cells : Cells) → cellsFit cells ≡ true → cellsSound cells ≡ cellsLawful cells
+unfolding cellsFit cellsLawful
+sound-lawful cells e =
+    rw (each-sound (cells .marks) (cells .characters) (both-left (every (fits 2) (cells .marks)) (every (fits 7) (cells .characters)) (subst T (sym e) tt)))
+
 -- ---- one cell more
 
-fit-cases : (large p q r s : Bool) → (not large && ((not p && r) && (not q && s))) ≡ (not ((large || p) || q) && (r && s))
-fit-cases true p q r s = refl
-fit-cases false true q r s = refl
-fit-cases false false true true s = refl
-fit-cases false false true false s = refl
-fit-cases false false false r s = refl
+fit-cases : (p′ q′ p q r s : Bool) → (not (q′ || p′) && ((not p && r) && (not q && s))) ≡ (not ((q′ || q) || (p′ || p)) && (r && s))
+fit-cases p′ true p q r s = refl
+fit-cases true false p true r s = refl
+fit-cases true false p false r s = refl
+fit-cases false false true true r s = refl
+fit-cases false false true false r s = refl
+fit-cases false false false true true s = refl
+fit-cases false false false true false s = refl
+fit-cases false false false false r s = refl
+
+-- a number made of the bits of two reaches a power of two just where one of them does
+module _ (k a b : ℕ) where
+  grows-l : a ≤ bitOr a b
+  grows-l = let e = or-add-and a b in let h = and-le-r a b in omega arith
+
+  grows-r : b ≤ bitOr a b
+  grows-r = let e = or-add-and a b in let h = and-le-l a b in omega arith
+
+  reached : (p q : Bool) → leb (2 ^ k) a ≡ p → leb (2 ^ k) b ≡ q → leb (2 ^ k) (bitOr a b) ≡ (p || q)
+  reached true q e f = le-leb (2 ^ k) (bitOr a b) (le-trans (leb-true (2 ^ k) a e) grows-l)
+  reached false true e f = le-leb (2 ^ k) (bitOr a b) (le-trans (leb-true (2 ^ k) b f) grows-r)
+  reached false false e f = lt-leb (2 ^ k) (bitOr a b) (or-lt k a b (leb-false (2 ^ k) a e) (leb-false (2 ^ k) b f))
+
+  or-reaches : leb (2 ^ k) (bitOr a b) ≡ (leb (2 ^ k) a || leb (2 ^ k) b)
+  or-reaches = reached (leb (2 ^ k) a) (leb (2 ^ k) b) refl refl
 
 lawful-cases : (unlawful p z s r : Bool) → (not unlawful && ((not p && (not z || s)) && r)) ≡ (not ((unlawful || p) || (z && not s)) && r)
 lawful-cases true p z s r = refl
@@ -44,29 +95,38 @@ lawful-cases false false true false r = refl
 lawful-cases false false false s r = refl
 
 module _ (characters marks : List ℕ) (at : ℕ) (c : at < length characters) (m : at < length marks) where
-  pub fit-more : (large : Bool) → (not large && cellsFit (cellsOf (drop at characters) (drop at marks)))
-      ≡ (not ((large || ltb 3 (getD marks at 0)) || ltb 127 (getD characters at 0)) && cellsFit (cellsOf (drop (at + 1) characters) (drop (at + 1) marks)))
+  pub fit-more : (character-bits mark-bits : ℕ) → (not (ltb 127 character-bits || ltb 3 mark-bits) && cellsFit (cellsOf (drop at characters) (drop at marks)))
+      ≡ (not (ltb 127 (bitOr character-bits (getD characters at 0)) || ltb 3 (bitOr mark-bits (getD marks at 0)))
+      && cellsFit (cellsOf (drop (at + 1) characters) (drop (at + 1) marks)))
   unfolding cellsFit every fits
-  fit-more large =
-      rw (add-one at, drop-cons characters at 0 c, drop-cons marks at 0 m, below-is (getD marks at 0) 4, below-is (getD characters at 0) 128)
-      (fit-cases large (ltb 3 (getD marks at 0)) (ltb 127 (getD characters at 0)) (every (fits 2) (drop (suc at) marks)) (every (fits 7) (drop (suc at) characters)))
+  fit-more character-bits mark-bits =
+      rw (
+        add-one at,
+        drop-cons characters at 0 c,
+        drop-cons marks at 0 m,
+        below-is (getD marks at 0) 4,
+        below-is (getD characters at 0) 128,
+        or-reaches 7 character-bits (getD characters at 0),
+        or-reaches 2 mark-bits (getD marks at 0),
+      )
+      (fit-cases (ltb 3 mark-bits) (ltb 127 character-bits) (ltb 3 (getD marks at 0)) (ltb 127 (getD characters at 0)) (every (fits 2) (drop (suc at) marks))
+      (every (fits 7) (drop (suc at) characters)))
 
-  pub lawful-more : (unlawful : Bool) → (not unlawful && everyPair cellLawful (drop at marks) (drop at characters))
-      ≡ (not ((unlawful || ltb 2 (getD marks at 0)) || (eqb (getD marks at 0) 0 && not (eqb (getD characters at 0) 32)))
-      && everyPair cellLawful (drop (at + 1) marks) (drop (at + 1) characters))
-  unfolding everyPair cellLawful
-  lawful-more unlawful =
-      rw (add-one at, drop-cons characters at 0 c, drop-cons marks at 0 m, at-most-is (getD marks at 0) 2)
-      (lawful-cases unlawful (ltb 2 (getD marks at 0)) (eqb (getD marks at 0) 0) (eqb (getD characters at 0) 32)
-      (everyPair cellLawful (drop (suc at) marks) (drop (suc at) characters)))
+  pub sound-more : (unlawful : Bool) → (not unlawful && everyPair cellSound (drop at marks) (drop at characters))
+      ≡ (not ((unlawful || eqb (getD marks at 0) 3) || (eqb (getD marks at 0) 0 && not (eqb (getD characters at 0) 32)))
+      && everyPair cellSound (drop (at + 1) marks) (drop (at + 1) characters))
+  unfolding everyPair
+  sound-more unlawful =
+      rw (add-one at, drop-cons characters at 0 c, drop-cons marks at 0 m)
+      (lawful-cases unlawful (eqb (getD marks at 0) 3) (eqb (getD marks at 0) 0) (eqb (getD characters at 0) 32)
+      (everyPair cellSound (drop (suc at) marks) (drop (suc at) characters)))
 
 -- ---- none asked yet, and all asked
 
-pub lawful-first : (characters marks : List ℕ) (marked : Bool) → marked ≡ not (every isNever (take 8 marks))
-    → (not marked && everyPair cellLawful marks characters) ≡ cellsLawful (cellsOf characters marks)
-unfolding cellsLawful
-lawful-first characters marks marked e =
-    rw (e, Bool·not-not (every isNever (take 8 marks))) (and-comm (every isNever (take 8 marks)) (everyPair cellLawful marks characters))
+pub sound-first : (characters marks : List ℕ) (marked : Bool) → marked ≡ not (every isNever (take 8 marks))
+    → (not marked && everyPair cellSound marks characters) ≡ cellsSound (cellsOf characters marks)
+sound-first characters marks marked e =
+    rw (e, Bool·not-not (every isNever (take 8 marks))) (and-comm (every isNever (take 8 marks)) (everyPair cellSound marks characters))
 
 module _ (characters marks : List ℕ) (at : ℕ) (c : length characters ≤ at) (m : length marks ≤ at) where
   pub fit-last : (large rest : Bool) → (not large && cellsFit (cellsOf (drop at characters) (drop at marks))) ≡ rest → rest ≡ not large
@@ -75,9 +135,9 @@ module _ (characters marks : List ℕ) (at : ℕ) (c : length characters ≤ at)
       sym (sym (and-true (not large))
       ∙ (rw (drop-of-length-le characters c, drop-of-length-le marks m) at e))
 
-  pub lawful-last : (unlawful rest : Bool) → (not unlawful && everyPair cellLawful (drop at marks) (drop at characters)) ≡ rest → rest ≡ not unlawful
+  pub sound-last : (unlawful rest : Bool) → (not unlawful && everyPair cellSound (drop at marks) (drop at characters)) ≡ rest → rest ≡ not unlawful
   unfolding everyPair
-  lawful-last unlawful rest e =
+  sound-last unlawful rest e =
       sym (sym (and-true (not unlawful))
       ∙ (rw (drop-of-length-le characters c, drop-of-length-le marks m) at e))
 

@@ -117,22 +117,25 @@ fn header_columns_marked(marks: &[u8]) -> bool
         | (marks[7] != 0)
 }
 
-// The check of all cells. It has no branch for a cell, so that many are asked at once.
+// The check of all cells. It has no branch for a cell, so that many are asked at once. The bits that any of them has are gathered, and whether one is too
+// large is asked of these at the end; of marks that are not, 3 alone is unlawful.
 fn all_checked(characters: &[u8], marks: &[u8]) -> CellsCheck
     requires { ⌜ (length (now characters) ≡ cellCount) × (length (now marks) ≡ cellCount) ⌝ }
     ensures { λ r. ⌜ r ≡ cellsChecked (cellsOf (now (characters .entry)) (now (marks .entry))) ⌝ }
 {
-    let mut large = false;
+    let mut character_bits: u8 = 0;
+    let mut mark_bits: u8 = 0;
     let mut unlawful = header_columns_marked(marks);
     let mut at = 0;
     while at < CELLS {
         let character = characters[at];
         let mark = marks[at];
-        large = large | (mark > 3) | (character > 127);
-        unlawful = unlawful | (mark > 2) | ((mark == 0) & (character != 32));
+        character_bits = character_bits | character;
+        mark_bits = mark_bits | mark;
+        unlawful = unlawful | (mark == 3) | ((mark == 0) & (character != 32));
         at += 1;
     }
-    if large {
+    if (character_bits > 127) | (mark_bits > 3) {
         return CellsCheck::TooLarge;
     }
     if unlawful {

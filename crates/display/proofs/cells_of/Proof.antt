@@ -1,22 +1,28 @@
 -- `display::cells_of` meets its contract. The loop's invariant: the cells so far, with those of what is left from the state that was reached, are the
--- row's.
+-- row's, and the cells from here on are zeros.
 use mathlib.Core.Path.{_≡_, refl, sym, _∙_, ap}
 use mathlib.Core.List.{_++_}
 use Prim.Native.Nat.{ℕ, _≤_, _-_, _+_}
 use native.Mathlib.Omega.{arith}
 use borrow.Author.Needs.{needs}
 use lib.ListN.{length, take, drop, length-set}
-use Rattle.display.specs.Display.{start, along}
-use Rattle.display.proofs.Steps.{one-more, all-done, zeros-length}
+use lib.Seq.{drop-set-lt}
+use Rattle.display.specs.Display.{start, along, columns, zeroCells}
+use Rattle.display.proofs.Steps.{one-more, one-less, filled-to, zeros-length}
 use Rattle.display.proofs.cells_of.Statement.{statement}
 use Rattle.display.proofs.cells_of.Tie as tie
 
 abbrev Inv-loop : tie.InvT-loop
-Inv-loop codes cells₀ state₀ column₀ cells state column =
-    (column ≤ 40) × (length codes ≡ 40) × (length cells ≡ 40) × (take column cells ++ along state (drop column codes) ≡ along start codes)
+Inv-loop codes count cells₀ state₀ column₀ cells state column =
+    (column ≤ count)
+    × (count ≤ length codes)
+    × (count ≤ columns)
+    × (length cells ≡ columns)
+    × (take column cells ++ along state (drop column codes) ≡ along start codes)
+    × (drop column cells ≡ drop column zeroCells)
 
 abbrev μ-loop : tie.MeasureT-loop
-μ-loop codes cells₀ state₀ column₀ cells state column = 40 - column
+μ-loop codes count cells₀ state₀ column₀ cells state column = count - column
 
 zero-cells-requires : tie.Need-zero-cells-requires Inv-loop μ-loop
 zero-cells-requires c κs = search needs
@@ -25,7 +31,10 @@ start-requires : tie.Need-start-requires Inv-loop μ-loop
 start-requires c κs = search needs
 
 loop-holds : tie.Need-loop-holds Inv-loop μ-loop
-loop-holds c = (search needs, c .before .before .before .pre, ap length (c .before .zero-cells .ensures) ∙ zeros-length, rw (c .start .ensures))
+loop-holds c =
+    let zeros = c .before .zero-cells .ensures in
+    let pre = c .before .before .before .pre in
+    (search needs, pre .0, pre .1, ap length zeros ∙ zeros-length, rw (c .start .ensures), zeros)
 
 shared-slice-read-step : tie.Need-shared-slice-read-step Inv-loop μ-loop
 shared-slice-read-step c = search needs
@@ -49,17 +58,23 @@ loop-again : tie.Need-loop-again Inv-loop μ-loop
 loop-again c =
     let turn = c .before .before .before .before .before in
     let codes = turn .before .before .before .before .args .codes .now in
-    let step = c .before .before .step .ensures in (
+    let step = c .before .before .step .ensures in
+    let column = turn .loop .column in
+    let inv = turn .loop .inv in (
       search needs,
-      turn .loop .inv .1,
-      simp length-set (turn .loop .inv .2),
-      rw (step .0, step .1) (one-more (turn .loop .cells) (turn .loop .state) codes (turn .loop .column) (search needs) (search needs)) ∙ turn .loop .inv .3,
+      inv .1,
+      inv .2,
+      simp length-set (inv .3),
+      rw (step .0, step .1) (one-more (turn .loop .cells) (turn .loop .state) codes column (search needs) (search needs)) ∙ inv .4,
+      drop-set-lt (column + 1) (turn .loop .cells) column _ (omega arith) ∙ one-less column (turn .loop .cells) zeroCells (inv .5),
     )
 
 returns : tie.Need-returns Inv-loop μ-loop
 returns c =
-    let codes = c .before .before .before .before .before .args .codes .now in
-    sym (all-done (c .before .loop .cells) (c .before .loop .state) codes (c .before .loop .column) (search needs) (search needs)) ∙ c .before .loop .inv .3
+    let loop = c .before .loop in
+    let inv = loop .inv in
+    let end : loop .column ≡ c .before .before .before .before .before .args .count = search needs in
+    rw (← end) (sym (filled-to (loop .column) (loop .cells) _ _ zeroCells (search needs) (inv .4) (inv .5)))
 
 pub cells-of-spec : {M : Type 1} → statement M
 cells-of-spec =
