@@ -21,7 +21,7 @@ use Rattle.packet.specs.declared.Framed.the-variants as framed
 use Rattle.receiver.specs.Cells.{howMany, keptCharacter, keptMark, laid, oneMissing, rowFound, rowPlace, stored}
 use Rattle.receiver.specs.Entries.{Meets, answerPaper, entered, lineBy, packetTaken, refusal}
 use Rattle.receiver.specs.Lines.{Seen, effect, nothing, passed, rowStored, seen, taken, text, textTaken}
-use Rattle.receiver.specs.Private.{Elsewhere, Shows, Sorted, foundFrom, joinedOf}
+use Rattle.receiver.specs.Private.{Elsewhere, Shows, Sorted, foundFrom, joinedOf, standingOf}
 use Rattle.receiver.specs.Recordings.{goesOn}
 use Rattle.receiver.specs.declared.Answer.the-variants.{Taken}
 use Rattle.receiver.specs.declared.Closing.the-variants.{None}
@@ -138,6 +138,11 @@ module _ (receiver : Receiver) (line lent : List ℕ) (whole : length (packetOf 
   row-line row e = meets _ lent (line-gives (text row) e) (record { answered = refl; kept = refl; left = refl })
 
 -- ---- playing on
+
+-- a receiver taken apart and joined again
+pub rejoined : (receiver : Receiver) (standing : Standing) → standing ≡ standingOf receiver
+    → joinedOf standing (receiver .cells .characters) (receiver .cells .marks) ≡ receiver
+rejoined receiver standing e = ap (λ (s : Standing). joinedOf s (receiver .cells .characters) (receiver .cells .marks)) e
 
 -- an equal receiver
 pub turning-as : {recording record₀ : List ℕ} {receiver : Receiver} {lent : List ℕ} {current current′ : Receiver} {at used : ℕ} → current′ ≡ current

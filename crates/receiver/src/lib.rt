@@ -856,9 +856,8 @@ fn play(receiver: Receiver, recording: &[u8], record: &mut [u8]) -> Recorded
     ensures { λ r. ⌜ PlaysAs (played receiver (now (recording .entry)) (now («record» .entry))) r (now («record» .exit)) ⌝ }
 {
     let mut standing = standing_of(receiver);
-    let cells = receiver.cells;
-    let mut characters = cells.characters;
-    let mut marks = cells.marks;
+    let mut characters = receiver.cells.characters;
+    let mut marks = receiver.cells.marks;
     let mut at = 0;
     let mut used = 0;
     while at < recording.len() {
@@ -875,8 +874,7 @@ fn play(receiver: Receiver, recording: &[u8], record: &mut [u8]) -> Recorded
                 continue;
             }
             Sort::Other => {
-                let current = joined(standing, characters, marks);
-                let stepped = line_step(current, line, record);
+                let stepped = line_step(joined(standing, characters, marks), line, record);
                 let answer = stepped.answer;
                 let next = stepped.receiver;
                 if !goes_on(answer) {
@@ -887,15 +885,13 @@ fn play(receiver: Receiver, recording: &[u8], record: &mut [u8]) -> Recorded
                     };
                 }
                 standing = standing_of(next);
-                let held = next.cells;
-                characters = held.characters;
-                marks = held.marks;
+                characters = next.cells.characters;
+                marks = next.cells.marks;
             }
         }
     }
-    let last = joined(standing, characters, marks);
     Recorded {
-        receiver: last,
+        receiver: joined(standing, characters, marks),
         used,
         answer: Played::End,
     }

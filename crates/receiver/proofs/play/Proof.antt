@@ -8,10 +8,10 @@ use Rattle.page.specs.Records.{cellCount}
 use Rattle.receiver.specs.Entries.{lawful}
 use Rattle.receiver.specs.Private.{joinedOf}
 use Rattle.receiver.specs.Recordings.{played}
-use Rattle.receiver.specs.declared.Standing.{Standing}
+use Rattle.receiver.specs.declared.Receiver.{Receiver}
 use borrow.Author.Needs.{needs}
 use Rattle.receiver.proofs.Playing.{Turning, plays-as, turning-ends, turning-on, turning-starts, turning-stops}
-use Rattle.receiver.proofs.Sorting.{row-within, turning-as, turning-passed, turning-row}
+use Rattle.receiver.proofs.Sorting.{rejoined, row-within, turning-as, turning-passed, turning-row}
 use Rattle.receiver.proofs.play.Statement.{statement}
 use Rattle.receiver.proofs.play.Tie as tie
 
@@ -29,14 +29,9 @@ standing-of-requires c κs = search needs
 
 loop-holds : tie.Need-loop-holds Inv-loop μ-loop
 loop-holds c =
-    let args = c .before .before .before .before .before .before .args in
-    let pre = c .before .before .before .before .before .before .pre in (
-      turning-starts _ _ _
-          (ap (λ (s : Standing). lawful (joinedOf s (args .receiver .cells .characters) (args .receiver .cells .marks))) (c .before .before .before .standing-of .ensures .0) ∙ pre .0)
-          (pre .1),
-      c .before .before .before .standing-of .ensures .1,
-      c .before .before .before .standing-of .ensures .2,
-    )
+    let start = c .before .before .before .before .before in
+    let parts = c .before .before .standing-of .ensures in
+    (turning-starts _ _ _ (ap lawful (rejoined (start .args .receiver) _ (parts .0)) ∙ start .pre .0) (start .pre .1), parts .1, parts .2)
 
 sub-line-size : tie.Need-sub-line-size Inv-loop μ-loop
 sub-line-size c = search needs
@@ -144,20 +139,18 @@ returns c =
     let turn = s .before .before .before .before .before .loop in
     let more = s .before .before .before .before .loop-test .taken in
     let size = s .before .before .before .line-size in
-    let start = s .before .before .before .before .before .before .before .before .before .before .before .before .args in
-    plays-as _ _
-    (ap (λ (x : Standing). played (joinedOf x (start .receiver .cells .characters) (start .receiver .cells .marks)) (start .recording .now) (now (start .«record»)))
-    (s .before .before .before .before .before .before .before .before .before .standing-of .ensures .0))
+    let start = s .before .before .before .before .before .before .before .before .before .before .before .args in
+    let step = c .before .before .before .before .before .line-step in
+    plays-as _ _ (ap (λ (r : Receiver). played r (start .recording .now) (now (start .«record»))) (rejoined (start .receiver) _ (s .before .before .before .before .before .before .before .before .standing-of .ensures .0)))
     (turning-stops (turning-as (c .before .before .before .before .before .before .before .joined .ensures) (turn .inv .0)) more (size .result) (size .ensures) (turn .at + size .result - turn .at) (omega arith)
-    (c .before .before .before .before .before .line-step .result) _ (c .before .before .before .before .before .line-step .ensures)
-    (sym (c .before .goes-on .ensures) ∙ not-true _ (c .if1 .taken)))
+    (step .result) _ (step .ensures) (sym (c .before .goes-on .ensures) ∙ not-true _ (c .if1 .taken)))
 
 standing-of-requires-2 : tie.Need-standing-of-requires-2 Inv-loop μ-loop
 standing-of-requires-2 c κs = search needs
 
 loop-less-3 : tie.Need-loop-less-3 Inv-loop μ-loop
 loop-less-3 c =
-    let s = c .before .before .before .before .before .before .before .before .before .before .before .before .before .before in
+    let s = c .before .before .before .before .before .before .before .before .before .before .before .before .before in
     let turn = s .before .before .before .before .before .loop in
     let more = s .before .before .before .before .loop-test .taken in
     let size = s .before .before .before .line-size in
@@ -166,16 +159,17 @@ loop-less-3 c =
 
 loop-again-3 : tie.Need-loop-again-3 Inv-loop μ-loop
 loop-again-3 c =
-    let s = c .before .before .before .before .before .before .before .before .before .before .before .before .before .before in
+    let s = c .before .before .before .before .before .before .before .before .before .before .before .before .before in
     let turn = s .before .before .before .before .before .loop in
     let more = s .before .before .before .before .loop-test .taken in
-    let size = s .before .before .before .line-size in (
-      turning-as (ap (λ (x : Standing). joinedOf x (c .before .before .before .before .before .before .before .before .before .line-step .result .receiver .cells .characters) (c .before .before .before .before .before .before .before .before .before .line-step .result .receiver .cells .marks)) (c .before .before .before .standing-of2 .ensures .0))
-          (turning-on (turning-as (c .before .before .before .before .before .before .before .before .before .before .before .joined .ensures) (turn .inv .0)) more (size .result) (size .ensures) (turn .at + size .result - turn .at) (omega arith)
-          (c .before .before .before .before .before .before .before .before .before .line-step .result) _ (c .before .before .before .before .before .before .before .before .before .line-step .ensures)
-          (sym (c .before .before .before .before .before .goes-on .ensures) ∙ not-false _ (c .before .before .before .before .if1 .left)) (search needs)),
-      c .before .before .before .standing-of2 .ensures .1,
-      c .before .before .before .standing-of2 .ensures .2,
+    let size = s .before .before .before .line-size in
+    let step = c .before .before .before .before .before .before .before .before .line-step in
+    let parts = c .before .before .standing-of2 .ensures in (
+      turning-as (rejoined (step .result .receiver) _ (parts .0))
+          (turning-on (turning-as (c .before .before .before .before .before .before .before .before .before .before .joined .ensures) (turn .inv .0)) more (size .result) (size .ensures) (turn .at + size .result - turn .at) (omega arith)
+          (step .result) _ (step .ensures) (sym (c .before .before .before .before .goes-on .ensures) ∙ not-false _ (c .before .before .before .if1 .left)) (search needs)),
+      parts .1,
+      parts .2,
     )
 
 joined-requires-2 : tie.Need-joined-requires-2 Inv-loop μ-loop
@@ -186,10 +180,8 @@ same-length-2 c = search needs
 
 returns-2 : tie.Need-returns-2 Inv-loop μ-loop
 returns-2 c =
-    let start = c .before .before .before .before .before .before .before .before .before .args in
-    plays-as _ _
-    (ap (λ (x : Standing). played (joinedOf x (start .receiver .cells .characters) (start .receiver .cells .marks)) (start .recording .now) (now (start .«record»)))
-    (c .before .before .before .before .before .before .standing-of .ensures .0))
+    let start = c .before .before .before .before .before .before .before .before .args in
+    plays-as _ _ (ap (λ (r : Receiver). played r (start .recording .now) (now (start .«record»))) (rejoined (start .receiver) _ (c .before .before .before .before .before .standing-of .ensures .0)))
     (turning-ends (turning-as (c .joined2 .ensures) (c .before .before .loop .inv .0)) (c .before .loop-test .left))
 
 pub play-spec : {M : Type 1} → statement M
