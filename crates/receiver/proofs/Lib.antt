@@ -17,6 +17,7 @@ pub mod Resting
 pub mod Rows
 pub mod Shows
 pub mod Sized
+pub mod Sorting
 pub mod Sound
 pub mod Steps
 pub mod Undoubted

@@ -5,19 +5,22 @@ ghost use mathlib.Core.List.{[], map};
 ghost use mathlib.Core.Path.{_≡_};
 ghost use Prim.Native.Nat.{_+_, _-_, _≤_, min};
 ghost use lib.ListN.{length};
-ghost use Rattle.packet.specs.Addresses.{lastRow};
+ghost use Rattle.coding.specs.Bits.{turnedByte};
+ghost use Rattle.coding.specs.Hamming.{message};
+ghost use Rattle.packet.specs.Addresses.{addressOf, lastRow};
 ghost use Rattle.packet.specs.Headers.{headerOf, zeroHeader};
 ghost use Rattle.packet.specs.Lines.{framed, lineLength, packetLength};
 ghost use Rattle.packet.specs.Texts.{textOf};
 ghost use Rattle.page.specs.Lawful.{cellsFit, cellsLawful};
-ghost use Rattle.page.specs.Records.{recordLength};
-ghost use Rattle.receiver.specs.Cells.{age, firstColumn, howMany, keptCharacter, keptMark, rowFound};
+ghost use Rattle.page.specs.Records.{cellCount, recordLength};
+ghost use Rattle.receiver.specs.Cells.{age, firstColumn, howMany, keptCharacter, keptMark, laid, oneMissing, rowFound, rowPlace};
 ghost use Rattle.receiver.specs.Entries.{Meets, answerPaper, isZero, lawful, lineBy, lineEntered, made, madeAnswer, packetEntered, packetTaken};
-ghost use Rattle.receiver.specs.Lines.{closed, closingWord, doubted, effect, headerSeen, headerTaken, justClosed, lentAfter, nothing, openingCells, rowStored, seenWhole, textTaken, unsureTaken};
-ghost use Rattle.receiver.specs.Private.{Took, bothLawful, foundFrom, heard, laidRow, one, stateOf, wordOf};
+ghost use Rattle.receiver.specs.Lines.{closed, closingWord, doubted, effect, headerSeen, headerTaken, justClosed, lentAfter, nothing, openingCells, rowStored, seen, seenWhole, textTaken, unsureTaken};
+ghost use Rattle.receiver.specs.Private.{Elsewhere, Shows, Sorted, Took, bothLawful, foundFrom, heard, joinedOf, one, standingOf, stateOf, wordOf};
 ghost use Rattle.receiver.specs.Recordings.{PlaysAs, goesOn, played};
 ghost use Rattle.receiver.specs.Selections.{inRange, matches, selectedPaper, timeMatches, whenInRange};
 use coding::Character;
+use coding::Message;
 use packet::Address;
 use packet::Framed;
 use packet::Header;
@@ -115,17 +118,25 @@ struct Closed {
     closing: Closing,
 }
 
-// A row laid over the cells: how many characters were written, and whether one was missing.
-struct Row {
-    cells: Cells,
-    count: u8,
-    missing: bool,
-}
-
 // A receiver with a row stored, and how many characters were written.
 struct Stored {
     receiver: Receiver,
     count: u8,
+}
+
+// A receiver without its cells, which stay where they lie while a recording is played.
+struct Standing {
+    selection: Selection,
+    is_open: bool,
+    doubt: bool,
+    header: Header,
+}
+
+// What a packet is to a recording that is played: one that does nothing, a row of the open page, or any other.
+enum Sort {
+    Passed,
+    Row(u8),
+    Other,
 }
 
 fn when_in_range(when: When) -> bool
@@ -273,13 +284,17 @@ fn written(found: Character) -> u8
     }
 }
 
-// Lays the characters from column `first` on over the cells from `place` on.
-fn lay_row(cells: Cells, bytes: [u8; 40], first: usize, place: usize) -> Row
-    requires { ⌜ (first ≤ 40) × (place + (40 - first) ≤ 960) ⌝ }
-    ensures { λ r. ⌜ r ≡ laidRow cells (foundFrom first bytes) place ⌝ }
+// Lays the characters from column `first` on over the cells from `place` on, where they lie; how many characters were written.
+fn lay_row(
+    characters: &mut [u8],
+    marks: &mut [u8],
+    bytes: [u8; 40],
+    first: usize,
+    place: usize,
+) -> u8
+    requires { ⌜ (first ≤ 40) × (place + (40 - first) ≤ 960) × (length (now characters) ≡ 960) × (length (now marks) ≡ 960) ⌝ }
+    ensures { λ r. ⌜ (r ≡ howMany (foundFrom first bytes)) × (now (characters .exit) ≡ laid keptCharacter place (foundFrom first bytes) (now (characters .entry))) × (now (marks .exit) ≡ laid keptMark place (foundFrom first bytes) (now (marks .entry))) ⌝ }
 {
-    let mut characters = cells.characters;
-    let mut marks = cells.marks;
     let count = 40 - first;
     let mut written_so_far: u8 = 0;
     let mut at = 0;
@@ -291,12 +306,7 @@ fn lay_row(cells: Cells, bytes: [u8; 40], first: usize, place: usize) -> Row
         written_so_far += written(found);
         at += 1;
     }
-    let cells = Cells { characters, marks };
-    Row {
-        cells,
-        count: written_so_far,
-        missing: (written_so_far as usize) < count,
-    }
+    written_so_far
 }
 
 fn aged_mark(mark: u8) -> u8
@@ -347,20 +357,28 @@ fn store_row(receiver: Receiver, row: u8, bytes: [u8; 40]) -> Stored
 {
     let first = first_column(row);
     let cells = receiver.cells;
-    let laid = lay_row(cells, bytes, first, (row as usize) * 40 + first);
-    let stored = laid.cells;
+    let mut characters = cells.characters;
+    let mut marks = cells.marks;
+    let laid = lay_row(
+        &mut characters,
+        &mut marks,
+        bytes,
+        first,
+        (row as usize) * 40 + first,
+    );
+    let stored = Cells { characters, marks };
     let selection = receiver.selection;
     let header = receiver.header;
     let after = Receiver {
         selection,
         open: receiver.open,
-        doubt: receiver.doubt | laid.missing,
+        doubt: receiver.doubt | ((laid as usize) < 40 - first),
         header,
         cells: stored,
     };
     Stored {
         receiver: after,
-        count: laid.count,
+        count: laid,
     }
 }
 
@@ -739,33 +757,141 @@ fn line_size(rest: usize) -> usize
     }
 }
 
-// Lines end to end, for a receiver that is known to be lawful and a record that is long enough.
+// Whether the first address message alone shows another magazine: what the second is does not matter then.
+fn is_elsewhere(ours: u8, byte: u8) -> bool
+    ensures { λ r. ⌜ (r ≡ true → Elsewhere ours (message (turnedByte byte))) ⌝ }
+{
+    match coding::message_of(coding::turned(byte)) {
+        Message::Good(first) => first % 8 != ours % 8,
+        Message::Refused => false,
+    }
+}
+
+// What a packet is whose address messages are both good.
+fn whole_sort(standing: Standing, magazine: u8, row: u8) -> Sort
+    ensures { λ r. ⌜ Shows r (seenWhole (standing .selection) (standing .«is_open») magazine row) ⌝ }
+{
+    if magazine != standing.selection.magazine {
+        return Sort::Passed;
+    }
+    if row == 0 {
+        return Sort::Other;
+    }
+    if !standing.is_open {
+        return Sort::Passed;
+    }
+    if row <= 23 {
+        Sort::Row(row)
+    } else {
+        Sort::Passed
+    }
+}
+
+// What the packet of a line is, asked before anything is done: most lines of a recording are another magazine's. A line that is refused has an empty
+// part instead.
+fn sort_of(standing: Standing, packet: &[u8]) -> Sort
+    ensures { λ r. ⌜ Sorted r (now (packet .entry)) (seen (standing .selection) (standing .«is_open») (addressOf (now (packet .entry)))) ⌝ }
+{
+    if packet.len() != packet::PACKET_LENGTH {
+        return Sort::Other;
+    }
+    if is_elsewhere(standing.selection.magazine, packet[0]) {
+        return Sort::Passed;
+    }
+    match packet::address_of(packet) {
+        Address::Whole { magazine, row } => whole_sort(standing, magazine, row),
+        Address::First {
+            magazine: _,
+            weight1: _,
+        } => Sort::Other,
+        Address::Second { weights: _ } => Sort::Other,
+        Address::Unread => Sort::Other,
+        Address::WrongLength => Sort::Other,
+    }
+}
+
+// Lays our row 1 to 23 over the cells; whether a character was missing.
+fn row_over(characters: &mut [u8], marks: &mut [u8], packet: &[u8], row: u8) -> bool
+    requires { ⌜ (1 ≤ row) × (row ≤ lastRow) × (length (now characters) ≡ cellCount) × (length (now marks) ≡ cellCount) ⌝ }
+    ensures { λ r. ⌜ (r ≡ oneMissing (rowFound row (textOf (now (packet .entry)) .bytes))) × (now (characters .exit) ≡ laid keptCharacter (rowPlace row) (rowFound row (textOf (now (packet .entry)) .bytes)) (now (characters .entry))) × (now (marks .exit) ≡ laid keptMark (rowPlace row) (rowFound row (textOf (now (packet .entry)) .bytes)) (now (marks .entry))) ⌝ }
+{
+    let text = packet::text_of(packet);
+    let bytes = text.bytes;
+    lay_row(characters, marks, bytes, 0, (row as usize) * 40) < 40
+}
+
+// What a receiver is but for its cells, which are 960 of each.
+fn standing_of(receiver: Receiver) -> Standing
+    ensures { λ r. ⌜ (r ≡ standingOf receiver) × (length (receiver .cells .characters) ≡ cellCount) × (length (receiver .cells .marks) ≡ cellCount) ⌝ }
+{
+    let selection = receiver.selection;
+    let header = receiver.header;
+    Standing {
+        selection,
+        is_open: receiver.open,
+        doubt: receiver.doubt,
+        header,
+    }
+}
+
+fn joined(standing: Standing, characters: [u8; 960], marks: [u8; 960]) -> Receiver
+    ensures { λ r. ⌜ r ≡ joinedOf standing characters marks ⌝ }
+{
+    let selection = standing.selection;
+    let header = standing.header;
+    let cells = Cells { characters, marks };
+    Receiver {
+        selection,
+        open: standing.is_open,
+        doubt: standing.doubt,
+        header,
+        cells,
+    }
+}
+
+// Lines end to end, for a receiver that is known to be lawful and a record that is long enough. The cells are moved only for a line that is neither
+// passed over nor a row.
 fn play(receiver: Receiver, recording: &[u8], record: &mut [u8]) -> Recorded
     requires { ⌜ (lawful receiver ≡ true) × (recordLength ≤ length (now «record»)) ⌝ }
     ensures { λ r. ⌜ PlaysAs (played receiver (now (recording .entry)) (now («record» .entry))) r (now («record» .exit)) ⌝ }
 {
-    let mut current = receiver;
+    let mut standing = standing_of(receiver);
+    let mut characters = receiver.cells.characters;
+    let mut marks = receiver.cells.marks;
     let mut at = 0;
     let mut used = 0;
     while at < recording.len() {
         let size = line_size(recording.len() - at);
         let line = &recording[at..at + size];
-        let stepped = line_step(current, line, record);
-        let answer = stepped.answer;
-        let next = stepped.receiver;
-        used += 1;
-        if !goes_on(answer) {
-            return Recorded {
-                receiver: next,
-                used,
-                answer: Played::Stopped(answer),
-            };
-        }
-        current = next;
+        let packet = packet::packet_of(line);
         at += size;
+        used += 1;
+        match sort_of(standing, packet) {
+            Sort::Passed => continue,
+            Sort::Row(row) => {
+                let missing = row_over(&mut characters, &mut marks, packet, row);
+                standing.doubt = standing.doubt | missing;
+                continue;
+            }
+            Sort::Other => {
+                let stepped = line_step(joined(standing, characters, marks), line, record);
+                let answer = stepped.answer;
+                let next = stepped.receiver;
+                if !goes_on(answer) {
+                    return Recorded {
+                        receiver: next,
+                        used,
+                        answer: Played::Stopped(answer),
+                    };
+                }
+                standing = standing_of(next);
+                characters = next.cells.characters;
+                marks = next.cells.marks;
+            }
+        }
     }
     Recorded {
-        receiver: current,
+        receiver: joined(standing, characters, marks),
         used,
         answer: Played::End,
     }
