@@ -50,19 +50,12 @@ missingText =
     0x20 ∷ 0x64 ∷ 0x6F ∷ 0x75 ∷ 0x62 ∷ 0x74 ∷ 0x2C ∷ 0x20 ∷ 0x6C ∷ 0x69 ∷ 0x6E ∷ 0x65 ∷ 0x73 ∷ 0x20 ∷ 0x61 ∷ 0x72 ∷ 0x65
     ∷ 0x20 ∷ 0x6D ∷ 0x69 ∷ 0x73 ∷ 0x73 ∷ 0x69 ∷ 0x6E ∷ 0x67 ∷ lineFeed
 
-unfoldable pub afterHeading : Told → List ℕ → List ℕ
-unfolding cleanText doubtText missingText pageText
-afterHeading told.Nothing characters = []
-afterHeading told.Clean characters = cleanText ++ pageText characters
-afterHeading told.Doubt characters = doubtText
-afterHeading told.Missing characters = missingText
-
 unfoldable pub pageAnnounced : Told → Page → List ℕ
-unfolding headingText afterHeading
+unfolding headingText cleanText doubtText missingText pageText
 pageAnnounced told.Nothing page = []
-pageAnnounced told.Clean page = headingText (page .magazine) (page .header) ++ afterHeading told.Clean (page .cells .characters)
-pageAnnounced told.Doubt page = headingText (page .magazine) (page .header) ++ afterHeading told.Doubt (page .cells .characters)
-pageAnnounced told.Missing page = headingText (page .magazine) (page .header) ++ afterHeading told.Missing (page .cells .characters)
+pageAnnounced told.Clean page = headingText (page .magazine) (page .header) ++ (cleanText ++ pageText (page .cells .characters))
+pageAnnounced told.Doubt page = headingText (page .magazine) (page .header) ++ doubtText
+pageAnnounced told.Missing page = headingText (page .magazine) (page .header) ++ missingText
 
 -- of the record that was written as the page closed
 unfoldable pub announced : Told → List ℕ → List ℕ

@@ -1,6 +1,6 @@
 -- What is kept beside the receiver while lines are fed: whether a line was refused while the page was open, how many lines there were, and how many were
 -- refused, by number. The counts stop at the largest number that they can hold.
-use mathlib.Core.Bool.{Bool, true, false, cond, _||_}
+use mathlib.Core.Bool.{Bool, false, _||_}
 use Prim.Native.Nat.{ℕ, _+_, min}
 use Rattle.receiver.specs.declared.Answer.{Answer}
 use Rattle.receiver.specs.declared.Answer.the-variants as answer
@@ -18,6 +18,7 @@ gapAfter gap isOpen answer.ShortRecord = gap || isOpen
 gapAfter gap isOpen answer.WrongLength = gap || isOpen
 gapAfter gap isOpen answer.WrongFraming = gap || isOpen
 
+-- the largest number that a count can hold
 abbrev pub most : ℕ
 most = 18446744073709551615
 

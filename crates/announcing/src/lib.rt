@@ -1,7 +1,5 @@
 // What the receiving program says: which page is asked for, which text goes with which answer, and what is kept of the lines that were fed.
 ghost use mathlib.Core.Path.{_≡_};
-ghost use mathlib.Core.Bool.{_&&_};
-ghost use Prim.Native.Nat.{_≤_};
 ghost use lib.ListN.{length};
 ghost use Rattle.announcing.specs.Asked.{asked, askedFor, digitAt, isNumber, isTime, timeAsked, selectionAsked, valueAt};
 ghost use Rattle.announcing.specs.Told.{digitText, headingText, toldOf};
@@ -19,6 +17,9 @@ pub const TIMED: usize = 8;
 
 // "page 100 at 12:34:"
 pub const HEADING: usize = 18;
+
+// The largest count.
+const MOST: u64 = 18446744073709551615;
 
 pub enum Asked {
     Page(Selection),
@@ -210,12 +211,8 @@ fn gap_after(gap: bool, is_open: bool, answer: Answer) -> bool
 fn added_to(count: u64, more: u64) -> u64
     ensures { λ r. ⌜ r ≡ added count more ⌝ }
 {
-    let room = 18446744073709551615 - count;
-    if more < room {
-        count + more
-    } else {
-        18446744073709551615
-    }
+    let room = MOST - count;
+    if more < room { count + more } else { MOST }
 }
 
 fn refused_after(counts: Refused, answer: Answer) -> Refused

@@ -1,13 +1,13 @@
 -- What is said of a page, part by part.
 use mathlib.Core.Path.{_≡_, sym, _∙_, ap}
-use mathlib.Core.List.{List, [], _++_, append-assoc, append-nil}
-use Prim.Native.Nat.{ℕ, _+_}
-use lib.ListN.{length, take, drop, length-append}
+use mathlib.Core.List.{List, [], _++_, append-nil}
+use Prim.Native.Nat.{ℕ}
+use lib.ListN.{length, take, drop}
 use lib.Seq.{take-append-seam, drop-at}
 use Rattle.page.specs.Reading.{pageRead}
 use Rattle.page.specs.declared.Page.{Page}
 use Rattle.printing.specs.Pages.{pageText}
-use Rattle.announcing.specs.Told.{headingText, cleanText, doubtText, missingText, afterHeading, pageAnnounced, announced}
+use Rattle.announcing.specs.Told.{headingText, cleanText, doubtText, missingText, pageAnnounced, announced}
 use Rattle.announcing.specs.declared.Told.{Told}
 use Rattle.announcing.specs.declared.Told.the-variants.{Nothing, Clean, Doubt, Missing}
 
@@ -19,9 +19,6 @@ comes-next whole before part after is printed there =
     ∙ (ap (take (length part)) (drop-at before (part ++ after) printed there) ∙ take-append-seam part after))
 
 module _ (told : Told) («record» heading : List ℕ) (page : Page) (read : page ≡ pageRead «record») (head : heading ≡ headingText (page .magazine) (page .header)) where
-  headed : Told → List ℕ
-  headed which = headingText (page .magazine) (page .header) ++ afterHeading which (page .cells .characters)
-
   of-page : {which : Told} → told ≡ which → announced told «record» ≡ pageAnnounced which page
   unfolding announced
   of-page {which} e = ap (λ (t : Told). pageAnnounced t (pageRead «record»)) e ∙ ap (pageAnnounced which) (sym read)
@@ -34,14 +31,14 @@ module _ (told : Told) («record» heading : List ℕ) (page : Page) (read : pag
   nothing-said e = of-page e
 
   pub clean-said : told ≡ Clean → (text : List ℕ) → text ≡ pageText (page .cells .characters) → announced told «record» ≡ heading ++ (cleanText ++ text)
-  unfolding pageAnnounced afterHeading
+  unfolding pageAnnounced
   clean-said e text is =
       of-page e ∙ (with-heading (cleanText ++ pageText (page .cells .characters)) ∙ ap (λ (t : List ℕ). heading ++ (cleanText ++ t)) (sym is))
 
   pub doubt-said : told ≡ Doubt → announced told «record» ≡ heading ++ (doubtText ++ [])
-  unfolding pageAnnounced afterHeading
+  unfolding pageAnnounced
   doubt-said e = of-page e ∙ (with-heading doubtText ∙ ap (λ (t : List ℕ). heading ++ t) (sym (append-nil doubtText)))
 
   pub missing-said : told ≡ Missing → announced told «record» ≡ heading ++ (missingText ++ [])
-  unfolding pageAnnounced afterHeading
+  unfolding pageAnnounced
   missing-said e = of-page e ∙ (with-heading missingText ∙ ap (λ (t : List ℕ). heading ++ t) (sym (append-nil missingText)))

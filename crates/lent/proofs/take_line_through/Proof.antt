@@ -46,7 +46,6 @@ use Rattle.receiver.specs.Entries as entries
 use Rattle.receiver.specs.Entries.{lineEntered}
 use Rattle.receiver.specs.declared.Answer.{Answer}
 use Rattle.receiver.specs.declared.Receiver.{Receiver}
-use Rattle.receiver.specs.declared.Stepped.{Stepped}
 use Rattle.lent.specs.Lent.{together}
 use Rattle.receiver.proofs.Receiver as T
 use Rattle.receiver.proofs.Receiver.Laws as T′

@@ -7,7 +7,6 @@ use borrow.Author.Needs.{needs}
 use lib.ListN.{length, take, drop}
 use lib.Seq.{paste}
 use Rattle.printing.specs.Printed.{Printed, printed, printedPaper}
-use Rattle.printing.specs.declared.PrintedRow.{PrintedRow}
 use Rattle.printing.proofs.Pages.{upTo, none-yet, all-there, up-to-length, row-laid}
 use Rattle.printing.proofs.printed_page.Statement.{statement}
 use Rattle.printing.proofs.printed_page.Tie as tie

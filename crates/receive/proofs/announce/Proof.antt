@@ -1,5 +1,5 @@
 -- `receive::announce` meets its contract: by what is told, nothing, a line, or a line and the page.
-use mathlib.Core.Path.{_≡_, refl, sym, _∙_, ap}
+use mathlib.Core.Path.{_≡_, sym, _∙_, ap}
 use mathlib.Core.List.{List, [], _++_, append-assoc, append-nil}
 use Prim.Native.Nat.{ℕ, _+_}
 use native.Mathlib.Omega.{arith}
@@ -10,7 +10,7 @@ use Rattle.page.specs.Reading.{pageRead}
 use Rattle.page.specs.declared.Page.{Page}
 use Rattle.announcing.specs.Told.{announced, headingText, cleanText, doubtText, missingText}
 use Rattle.announcing.specs.declared.Told.{Told}
-use Rattle.announcing.specs.declared.Told.the-variants.{Nothing, Clean, Doubt, Missing}
+use Rattle.announcing.specs.declared.Told.the-variants.{Nothing, Doubt, Missing}
 use Rattle.receive.proofs.Parts.{comes-next, nothing-said, clean-said, doubt-said, missing-said}
 use Rattle.receive.proofs.announce.Statement.{statement}
 use Rattle.receive.proofs.announce.Tie as tie

@@ -1,10 +1,7 @@
 -- `receive::print_line` meets its contract: the heading comes first, and the word behind it.
 use mathlib.Core.List.{[]}
-use Prim.Native.Nat.{ℕ, _+_}
-use native.Mathlib.Omega.{arith}
-use mathlib.Core.Path.{_≡_, refl, sym, _∙_}
+use mathlib.Core.Path.{refl, sym}
 use borrow.Author.Needs.{needs}
-use lib.ListN.{length}
 use Rattle.receive.proofs.Parts.{comes-next}
 use Rattle.receive.proofs.print_line.Statement.{statement}
 use Rattle.receive.proofs.print_line.Tie as tie
