@@ -1,190 +1,190 @@
-//! The answer line of a case, worked out from the case's own bytes.
+//! The answer to a case, worked out from the case's own bytes.
 
 use crate::bits::{character, framing_passes, message, test_a, test_b, test_c, test_d, turned};
 use crate::display::{display, Cell, Symbol};
-use crate::field::{list, search, Found};
-use crate::packet::{address, data_line_refusal, forty, header, Address};
-use crate::receiver::{new_receiver, play, receive_line, receive_line_lent, receive_packet};
+use crate::field::{list, search, unit_from, Found};
+use crate::packet::{address, data_line_refusal, forty, header, zero_header, Address};
+use crate::receiver::{new_receiver, play, receive_line, receive_line_lent, receive_packet, Answer, Receiver};
 use crate::record::{read_page, write_page};
 use crate::text::*;
 
-/// The answer line, without its line feed.
-pub fn answer(sort: char, x: &[u8]) -> String {
-    match sort {
+/// In the place of a message, a character or a header that is not read.
+const REFUSED: u8 = 0xFF;
+
+/// The kind where a recording came to its end.
+const AT_END: u8 = 0xFF;
+
+/// The bytes of the answer.
+pub fn answer(case: &Case) -> Vec<u8> {
+    let x = &case.input[..];
+    let record = case.record.clone().unwrap_or_default();
+    match case.sort {
         'b' => byte_answer(x[0]),
-        'n' => data_line_refusal(x).to_string(),
+        'n' => vec![data_line_refusal(x)],
         'a' => packet_answer(x),
-        's' => selection_answer(x),
-        'l' | 'm' | 'p' => one_line_answer(sort, x),
-        'e' => lines_answer(x),
-        'r' => recording_answer(x),
-        'w' => writer_answer(x),
-        'd' => reader_answer(x),
         'f' => search_answer(x),
-        'u' => lister_answer(x),
+        'u' => unit_answer(x),
         'g' => display_answer(x),
+        's' => selection_answer(x),
+        'r' => run_answer(x, record),
+        'w' => writer_answer(x, record),
+        'd' => reader_answer(x),
         _ => panic!("no such sort"),
     }
 }
 
 /// Sort b.
-fn byte_answer(x: u8) -> String {
-    let message_word = message(x).map_or("refused".to_string(), |m| m.to_string());
-    let character_word = character(x).map_or("refused".to_string(), |c| hex(&[c]));
-    format!(
-        "{} {} {} {} {} {} {} {}",
-        hex(&[turned(x)]),
+fn byte_answer(x: u8) -> Vec<u8> {
+    vec![
+        turned(x),
         framing_passes(x) as u8,
         test_a(x) as u8,
         test_b(x) as u8,
         test_c(x) as u8,
         test_d(x) as u8,
-        message_word,
-        character_word
-    )
+        message(x).unwrap_or(REFUSED),
+        character(x).unwrap_or(REFUSED),
+    ]
 }
 
-/// Sort a.
-fn packet_answer(x: &[u8]) -> String {
+/// Sort a: zeros beside a refusal.
+fn packet_answer(x: &[u8]) -> Vec<u8> {
     if x.len() != 42 {
-        return "10".to_string();
+        let mut out = vec![0; 53];
+        out[0] = 10;
+        out[4] = 10;
+        return out;
     }
-    let address_words = match address(x) {
-        Address::Whole { magazine, row } => format!("whole {} {}", magazine, row),
-        Address::First { magazine, row_weight_1 } => format!("first {} {}", magazine, row_weight_1),
-        Address::Second { message } => format!("second {}", 2 * message),
-        Address::Unread => "unread".to_string(),
+    let mut out = match address(x) {
+        Address::Whole { magazine, row } => vec![0, 3, magazine, row],
+        Address::First { magazine, row_weight_1 } => vec![0, 1, magazine, row_weight_1],
+        Address::Second { message } => vec![0, 2, message, 0],
+        Address::Unread => vec![0, 0, 0, 0],
     };
-    let header_words = match header(x) {
-        Some(header) => format!("header {}", hex(&header_bytes(&header))),
-        None => "spoiled".to_string(),
-    };
-    format!("0 {} {} {}", address_words, header_words, hex(&forty(x)))
+    let read = header(x);
+    out.push(if read.is_some() { 0 } else { REFUSED });
+    out.extend(header_bytes(&read.unwrap_or(zero_header())));
+    out.extend(forty(x));
+    out
 }
 
-/// Sort s.
-fn selection_answer(x: &[u8]) -> String {
-    let (number, receiver) = new_receiver(&selection_of(x));
-    format!("{} {}", number, hex(&receiver_bytes(&receiver)))
-}
-
-/// Sorts l, m and p.
-fn one_line_answer(sort: char, x: &[u8]) -> String {
-    let receiver = receiver_of(&x[..RECEIVER_LENGTH]);
-    let before = lent_record(of_two_bytes(&x[RECEIVER_LENGTH..RECEIVER_LENGTH + 2]));
-    let rest = &x[RECEIVER_LENGTH + 2..];
-    let mut record = before.clone();
-    let mut lent_receiver = receiver.clone();
-    let (answer, after) = match sort {
-        'l' => receive_line(&receiver, &mut record, rest),
-        'p' => receive_packet(&receiver, &mut record, rest),
-        _ => (receive_line_lent(&mut lent_receiver, &mut record, rest), lent_receiver),
-    };
-    let receiver_word = same_or_hex(&receiver_bytes(&receiver), &receiver_bytes(&after));
-    format!("{} {} {}", answer_words(&answer), receiver_word, same_or_hex(&before, &record))
-}
-
-/// Sort e.
-fn lines_answer(x: &[u8]) -> String {
-    let (_, mut receiver) = new_receiver(&selection_of(&x[..8]));
-    let mut record = lent_record(of_two_bytes(&x[8..10]));
-    let mut words = Vec::new();
-    let mut place = 11;
-    for _ in 0..x[10] {
-        let length = x[place] as usize;
-        let line = &x[place + 1..place + 1 + length];
-        place += 1 + length;
-        let before = record.clone();
-        let (answer, after) = receive_line(&receiver, &mut record, line);
-        receiver = after;
-        words.push(answer_words(&answer));
-        words.push(same_or_hex(&before, &record));
-    }
-    words.push(hex(&receiver_bytes(&receiver)));
-    words.join(" ")
-}
-
-/// Sort r.
-fn recording_answer(x: &[u8]) -> String {
-    let (_, mut receiver) = new_receiver(&selection_of(&x[..8]));
-    let mut record = lent_record(of_two_bytes(&x[8..10]));
-    let mut left = &x[10..];
-    let mut words = Vec::new();
-    loop {
-        let before = record.clone();
-        let played = play(&mut receiver, &mut record, left);
-        match played.stop {
-            Some(answer) => {
-                words.push(format!("stop {} {}", played.lines, answer_words(&answer)));
-                words.push(same_or_hex(&before, &record));
-                left = &left[std::cmp::min(left.len(), 45 * played.lines)..];
-            }
-            None => {
-                words.push(format!("end {} {}", played.lines, hex(&receiver_bytes(&receiver))));
-                return words.join(" ");
-            }
-        }
-    }
-}
-
-/// Sort w.
-fn writer_answer(x: &[u8]) -> String {
-    let page = page_of(&x[..PAGE_LENGTH]);
-    let before = lent_record(of_two_bytes(&x[PAGE_LENGTH..]));
-    let mut record = before.clone();
-    let number = write_page(&page, &mut record);
-    format!("{} {}", number, same_or_hex(&before, &record))
-}
-
-/// Sort d.
-fn reader_answer(x: &[u8]) -> String {
-    let (number, page) = read_page(x);
-    format!("{} {}", number, hex(&page_bytes(&page)))
+/// Three numbers of a byte, and two of four bytes.
+fn five(number: u8, first: u8, second: u8, place: usize, after: usize) -> Vec<u8> {
+    let mut out = vec![number, first, second];
+    out.extend((place as u32).to_be_bytes());
+    out.extend((after as u32).to_be_bytes());
+    out
 }
 
 /// Sort f.
-fn search_answer(x: &[u8]) -> String {
-    match search(&x[2..], of_two_bytes(&x[..2])) {
-        Found::Packet { place, parity, offset, after } => format!("0 found {} {} {} {}", place, parity, offset, after),
-        Found::NoMore => "0 none".to_string(),
-        Found::Refused { number, place: Some(place) } => format!("{} {}", number, place),
-        Found::Refused { number, place: None } => number.to_string(),
+fn search_answer(x: &[u8]) -> Vec<u8> {
+    match search(&x[8..], place_of(x) as usize) {
+        Found::Packet { place, parity, offset, after } => five(0, parity, offset, place, after),
+        Found::NoMore => five(0, 0, 0, 0, 0),
+        Found::Refused { number, place } => five(number, 0, 0, place.unwrap_or(0), 0),
     }
 }
 
 /// Sort u.
-fn lister_answer(x: &[u8]) -> String {
-    let (units, number, place) = list(x);
+fn unit_answer(x: &[u8]) -> Vec<u8> {
+    match unit_from(&x[8..], place_of(x) as usize) {
+        Ok(Some(unit)) => five(0, unit.id, unit.length as u8, 0, unit.place + 2 + unit.length),
+        Ok(None) => five(0, 0, 0, 0, 0),
+        Err((number, place)) => five(number, 0, 0, place.unwrap_or(0), 0),
+    }
+}
+
+/// What the unit lister prints of a field, its lines joined by spaces.
+pub fn lister_words(field: &[u8]) -> String {
+    let (units, number, place) = list(field);
     let mut words = Vec::new();
     for unit in units {
-        words.push(format!("unit {} {} {}", unit.place, unit.id, unit.length));
+        words.push(format!("{} {} {}", unit.place, unit.id, unit.length));
     }
     match (number, place) {
-        (0, _) => words.push(format!("end {}", x.len())),
-        (number, Some(place)) => words.push(format!("refused {} {}", number, place)),
+        (0, _) => words.push(format!("end {}", field.len())),
+        (number, Some(place)) => words.push(format!("refused {} at {}", number, place)),
         (number, None) => words.push(format!("refused {}", number)),
     }
     words.join(" ")
 }
 
-/// One cell as a word.
-pub fn cell_word(cell: &Cell) -> String {
-    let symbol = match cell.symbol {
-        Symbol::Letter(code) => format!("L{}", hex(&[code])),
-        Symbol::Mosaic { pattern, separated: false } => format!("C{}", hex(&[pattern])),
-        Symbol::Mosaic { pattern, separated: true } => format!("S{}", hex(&[pattern])),
+/// One cell, 8 bytes.
+fn cell_bytes(cell: &Cell) -> [u8; 8] {
+    let (kind, value) = match cell.symbol {
+        Symbol::Letter(code) => (b'L', code),
+        Symbol::Mosaic { pattern, separated: false } => (b'C', pattern),
+        Symbol::Mosaic { pattern, separated: true } => (b'S', pattern),
     };
     let (flash, conceal) = (cell.flash as u8, cell.conceal as u8);
     let (boxed, double) = (cell.boxed as u8, cell.double as u8);
-    format!("{}{}{}{}{}{}{}", symbol, cell.foreground, cell.background, flash, conceal, boxed, double)
+    [kind, value, cell.foreground, cell.background, flash, conceal, boxed, double]
 }
 
 /// Sort g.
-fn display_answer(x: &[u8]) -> String {
+fn display_answer(x: &[u8]) -> Vec<u8> {
     let (number, cells) = display(x);
-    let mut words = vec![number.to_string()];
+    let mut out = vec![number];
     for cell in &cells {
-        words.push(cell_word(cell));
+        out.extend(cell_bytes(cell));
     }
-    words.join(" ")
+    out
+}
+
+/// Sort s.
+fn selection_answer(x: &[u8]) -> Vec<u8> {
+    let (number, receiver) = new_receiver(&selection_of(x));
+    let mut out = vec![number];
+    out.extend(receiver_bytes(&receiver));
+    out
+}
+
+/// One step of a run: for a recording how many lines it used, and then ANSWER.
+fn step_answer(entry: u8, receiver: &mut Receiver, record: &mut [u8], bytes: &[u8]) -> Vec<u8> {
+    match entry {
+        b'm' => answer_bytes(&receive_line_lent(receiver, record, bytes)).to_vec(),
+        b'r' => {
+            let played = play(receiver, record, bytes);
+            let end = Answer { number: 0, kind: AT_END, count: 0, closing: 0 };
+            let mut out = two_bytes(played.lines).to_vec();
+            out.extend(answer_bytes(&played.stop.unwrap_or(end)));
+            out
+        }
+        _ => {
+            let by_value = if entry == b'p' { receive_packet } else { receive_line };
+            let (answer, after) = by_value(receiver, record, bytes);
+            *receiver = after;
+            answer_bytes(&answer).to_vec()
+        }
+    }
+}
+
+/// Sort r: after each step the record, and last the receiver.
+fn run_answer(x: &[u8], mut record: Vec<u8>) -> Vec<u8> {
+    let mut receiver = receiver_of(&x[..RECEIVER_LENGTH]);
+    let mut steps = &x[RECEIVER_LENGTH..];
+    let mut out = Vec::new();
+    while !steps.is_empty() {
+        let end = 3 + of_two_bytes(&steps[1..3]);
+        out.extend(step_answer(steps[0], &mut receiver, &mut record, &steps[3..end]));
+        out.extend(&record);
+        steps = &steps[end..];
+    }
+    out.extend(receiver_bytes(&receiver));
+    out
+}
+
+/// Sort w.
+fn writer_answer(x: &[u8], mut record: Vec<u8>) -> Vec<u8> {
+    let mut out = vec![write_page(&page_of(x), &mut record)];
+    out.extend(record);
+    out
+}
+
+/// Sort d.
+fn reader_answer(x: &[u8]) -> Vec<u8> {
+    let (number, page) = read_page(x);
+    let mut out = vec![number];
+    out.extend(page_bytes(&page));
+    out
 }

@@ -1,4 +1,4 @@
-//! Cases of sorts l, m and p: a receiver, a lent record's length, and a line or packet.
+//! Runs of one step: a receiver, a line or packet by one of the entries, and a lent record.
 
 use crate::bits::SENT;
 use crate::packet::{header, packet_of_line, zero_header};
@@ -6,7 +6,7 @@ use crate::random::Random;
 use crate::receiver::{new_receiver, receive_line, Receiver, Selection, SPACE};
 use crate::record::CELLS;
 use crate::send::*;
-use crate::text::{receiver_bytes, two_bytes};
+use crate::text::{receiver_bytes, step, Case};
 
 /// A receiver after so many lines of a broadcast with this level of damage.
 fn run(lines: u64, level: u64, random: &mut Random) -> Receiver {
@@ -322,9 +322,9 @@ fn some_line(receiver: &Receiver, random: &mut Random) -> Vec<u8> {
     line
 }
 
-/// The lent record's length.
-pub fn lent_length(random: &mut Random) -> usize {
-    match random.below(20) {
+/// A record to be lent: of several lengths, and of any bytes.
+fn lent_record(random: &mut Random) -> Vec<u8> {
+    let length = match random.below(20) {
         0 => 0,
         1..=2 => 1084,
         3..=14 => 1085,
@@ -332,32 +332,25 @@ pub fn lent_length(random: &mut Random) -> usize {
         17 => 1100,
         18 => random.pick(&[1, 1083, 1087, 2000]),
         _ => 1085,
-    }
+    };
+    random.bytes(length)
 }
 
-/// RECEIVER and the lent record's length.
-fn receiver_and_length(receiver: &Receiver, random: &mut Random) -> Vec<u8> {
-    let mut input = receiver_bytes(receiver);
-    input.extend(two_bytes(lent_length(random)));
-    input
-}
-
-/// Sorts l and m.
-pub fn receiver_and_line(i: u64, random: &mut Random) -> Vec<u8> {
-    let receiver = some_receiver(i, random);
-    let mut input = receiver_and_length(&receiver, random);
-    input.extend(some_line(&receiver, random));
-    input
-}
-
-/// Sort p.
-pub fn receiver_and_packet(i: u64, random: &mut Random) -> Vec<u8> {
-    let receiver = some_receiver(i, random);
-    let mut input = receiver_and_length(&receiver, random);
-    let mut packet = line_of_45(&receiver, random)[3..].to_vec();
+/// A packet, of any length.
+fn some_packet(receiver: &Receiver, random: &mut Random) -> Vec<u8> {
+    let mut packet = line_of_45(receiver, random)[3..].to_vec();
     if random.once_in(12) {
         packet.resize(random.pick(&[0, 1, 41, 43, 45]), 0x55);
     }
-    input.extend(packet);
-    input
+    packet
+}
+
+/// A run of one line, by value (l) or lent (m), or of one packet (p).
+pub fn one_step(entry: char, i: u64, random: &mut Random) -> Case {
+    let receiver = some_receiver(i, random);
+    let record = lent_record(random);
+    let bytes = if entry == 'p' { some_packet(&receiver, random) } else { some_line(&receiver, random) };
+    let mut input = receiver_bytes(&receiver);
+    input.extend(step(entry, &bytes));
+    Case::lent('r', input, record)
 }

@@ -5,7 +5,7 @@ use crate::random::Random;
 use crate::receiver::{new_receiver, SPACE};
 use crate::record::{write_page, zero_page, Page, CELLS, RECORD_LENGTH};
 use crate::send::{any_selection, matching_header};
-use crate::text::{page_bytes, two_bytes};
+use crate::text::{page_bytes, Case};
 
 /// A lawful page, parts now and then at their edges.
 fn lawful_page(random: &mut Random) -> Page {
@@ -99,7 +99,7 @@ fn page_of_anything(random: &mut Random) -> Page {
 }
 
 /// Sort w: pages lawful, spoiled by one cause, by two, and anything; several lent lengths.
-pub fn page_to_write(i: u64, random: &mut Random) -> Vec<u8> {
+pub fn page_to_write(i: u64, random: &mut Random) -> Case {
     let mut page = lawful_page(random);
     match i % 12 {
         0..=2 => {}
@@ -116,9 +116,8 @@ pub fn page_to_write(i: u64, random: &mut Random) -> Vec<u8> {
         _ => page = page_of_anything(random),
     }
     let length = random.pick(&[0, 1084, 1085, 1085, 1085, 1085, 1085, 1085, 1086, 1090]);
-    let mut input = page_bytes(&page);
-    input.extend(two_bytes(length));
-    input
+    let record = random.bytes(length);
+    Case::lent('w', page_bytes(&page), record)
 }
 
 /// The record of a page that is lawful.
@@ -164,7 +163,7 @@ fn spoil_record(record: &mut [u8], random: &mut Random) {
 }
 
 /// Sort d: records as written, with one part or two spoiled, a bit changed, random, wrong lengths.
-pub fn record_to_read(i: u64, random: &mut Random) -> Vec<u8> {
+pub fn record_to_read(i: u64, random: &mut Random) -> Case {
     let mut record = record_of(&lawful_page(random));
     match i % 14 {
         0..=2 => {}
@@ -189,5 +188,5 @@ pub fn record_to_read(i: u64, random: &mut Random) -> Vec<u8> {
             record[..5].copy_from_slice(&first_five);
         }
     }
-    record
+    Case::lent('d', record, Vec::new())
 }

@@ -1,13 +1,14 @@
-//! The sorts of cases, how many of each, and which maker makes them.
+//! The makers of cases, and how many cases each makes. A maker's letter is the sort that it makes, or, of the runs (sort r), the entry of their steps.
 
 use crate::random::Random;
+use crate::text::Case;
 use crate::{case_fields, case_lines, case_receivers, case_records, case_rows, case_sequences};
 
-pub const SORTS: &str = "bnaslmperwdfug";
+pub const MAKERS: &str = "bnaslmperwdfug";
 
-/// The share of each sort, in parts of the whole; sort b is always 256 cases.
-fn weight(sort: char) -> u64 {
-    match sort {
+/// The share of each maker, in parts of the whole; b always makes 256 cases.
+fn weight(maker: char) -> u64 {
+    match maker {
         'n' => 70,
         'a' => 130,
         's' => 40,
@@ -25,31 +26,29 @@ fn weight(sort: char) -> u64 {
     }
 }
 
-/// How many cases of a sort, where COUNT is shared out over the sorts asked for.
-pub fn share(sort: char, count: u64, sorts: &str) -> u64 {
-    if sort == 'b' {
+/// How many cases a maker makes, where COUNT is shared out over the makers asked for.
+pub fn share(maker: char, count: u64, makers: &str) -> u64 {
+    if maker == 'b' {
         return 256;
     }
-    let whole: u64 = SORTS.chars().filter(|s| sorts.contains(*s)).map(weight).sum();
-    std::cmp::max(1, count * weight(sort) / whole)
+    let whole: u64 = MAKERS.chars().filter(|m| makers.contains(*m)).map(weight).sum();
+    std::cmp::max(1, count * weight(maker) / whole)
 }
 
-/// The input of the case with this number among those of its sort.
-pub fn case(sort: char, i: u64, random: &mut Random) -> Vec<u8> {
-    match sort {
-        'b' => vec![i as u8],
-        'n' => case_lines::data_line(i, random),
-        'a' => case_lines::packet(i, random),
-        's' => case_lines::selection(i, random),
-        'l' | 'm' => case_receivers::receiver_and_line(i, random),
-        'p' => case_receivers::receiver_and_packet(i, random),
+/// The case with this number among those of its maker.
+pub fn case(maker: char, i: u64, random: &mut Random) -> Case {
+    match maker {
+        'b' => Case::alone('b', vec![i as u8]),
+        'n' => Case::alone('n', case_lines::data_line(i, random)),
+        'a' => Case::alone('a', case_lines::packet(i, random)),
+        's' => Case::lent('s', case_lines::selection(i, random), Vec::new()),
+        'l' | 'm' | 'p' => case_receivers::one_step(maker, i, random),
         'e' => case_sequences::lines(i, random),
         'r' => case_sequences::recording(i, random),
         'w' => case_records::page_to_write(i, random),
         'd' => case_records::record_to_read(i, random),
-        'f' => case_fields::field_and_place(i, random),
-        'u' => case_fields::field(i, random),
-        'g' => case_rows::row(i, random),
-        _ => panic!("no such sort"),
+        'f' | 'u' => case_fields::field_and_place(maker, i, random),
+        'g' => Case::alone('g', case_rows::row(i, random)),
+        _ => panic!("no such maker"),
     }
 }

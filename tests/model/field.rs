@@ -61,6 +61,22 @@ pub fn unit_at(field: &[u8], place: usize) -> Result<Unit, u8> {
     }
 }
 
+/// The unit at a place asked, if it is not the end: "fields 14, 17, then at each unit 15, 16", the last two with the place.
+pub fn unit_from(field: &[u8], from: usize) -> Result<Option<Unit>, (u8, Option<usize>)> {
+    if cause_14(field) {
+        return Err((14, None));
+    }
+    if from > field.len() {
+        return Err((17, None));
+    }
+    // "0 means the first unit"
+    let place = if from == 0 { 1 } else { from };
+    if place == field.len() {
+        return Ok(None);
+    }
+    unit_at(field, place).map(Some).map_err(|number| (number, Some(place)))
+}
+
 /// "Teletext ids are 02 and 03."
 fn teletext(unit: &Unit) -> bool {
     unit.id == 0x02 || unit.id == 0x03

@@ -109,8 +109,8 @@ fn table_agrees() -> bool {
 
 /// The lister's two inputs of the paper.
 fn lister_agrees() -> bool {
-    crate::answers::answer('u', &[0x99, 0xFF, 0x00]) == "unit 1 255 0 end 3"
-        && crate::answers::answer('u', &[0x10, 0xFF, 0x00]) == "refused 16 1"
+    crate::answers::lister_words(&[0x99, 0xFF, 0x00]) == "1 255 0 end 3"
+        && crate::answers::lister_words(&[0x10, 0xFF, 0x00]) == "refused 16 at 1"
 }
 
 /// Print how many of the thirteen hold, and whatever fails.

@@ -1,11 +1,13 @@
-//! The text of cases and answers: hexadecimal words and the shared pieces as bytes.
+//! Cases as text, and the shared pieces as bytes.
 
 use crate::packet::{zero_header, Header};
 use crate::receiver::{Answer, Receiver, Selection, TimeCode};
 use crate::record::{Page, CELLS};
 
 pub const RECEIVER_LENGTH: usize = 1938;
-pub const PAGE_LENGTH: usize = 1930;
+
+/// The longest input that two bytes can name.
+pub const LONGEST: usize = 65_535;
 
 /// Bytes in hexadecimal, two lower-case digits each.
 pub fn hex(bytes: &[u8]) -> String {
@@ -18,10 +20,32 @@ pub fn hex(bytes: &[u8]) -> String {
     out
 }
 
-/// A case line without its line feed: sort, count, bytes.
-pub fn case_line(sort: char, input: &[u8]) -> String {
-    assert!(input.len() <= 12_000, "an input has at most 12,000 bytes");
-    format!("{} {:04x} {}", sort, input.len(), hex(input))
+/// A case: its sort, its input, and the record that is lent, if the sort has one.
+pub struct Case {
+    pub sort: char,
+    pub input: Vec<u8>,
+    pub record: Option<Vec<u8>>,
+}
+
+impl Case {
+    /// A case that no record is lent for.
+    pub fn alone(sort: char, input: Vec<u8>) -> Case {
+        Case { sort, input, record: None }
+    }
+
+    /// A case with a record.
+    pub fn lent(sort: char, input: Vec<u8>, record: Vec<u8>) -> Case {
+        Case { sort, input, record: Some(record) }
+    }
+
+    /// Its line of text, without the line feed.
+    pub fn line(&self) -> String {
+        assert!(self.input.len() <= LONGEST, "an input has at most 65,535 bytes");
+        match &self.record {
+            None => format!("{} {}", self.sort, hex(&self.input)),
+            Some(record) => format!("{} {},{}", self.sort, hex(&self.input), hex(record)),
+        }
+    }
 }
 
 /// A number of two bytes, high byte first.
@@ -94,43 +118,47 @@ pub fn receiver_of(x: &[u8]) -> Receiver {
     }
 }
 
-/// PAGE, 1,930 bytes.
+/// PAGE: the form of a receiver, with the magazine in the selection and `clean` in the place of "page open".
 pub fn page_bytes(page: &Page) -> Vec<u8> {
-    let mut out = vec![page.magazine];
+    let mut out = vec![page.magazine, 0, 0, 0, 0, 0, 0, 0, page.clean as u8, 0];
     out.extend(header_bytes(&page.header));
-    out.push(page.clean as u8);
     out.extend(&page.characters);
     out.extend(&page.marks);
-    assert_eq!(out.len(), PAGE_LENGTH);
+    assert_eq!(out.len(), RECEIVER_LENGTH);
     out
 }
 
 /// PAGE back.
 pub fn page_of(x: &[u8]) -> Page {
+    let receiver = receiver_of(x);
     Page {
-        magazine: x[0],
-        header: header_of(&x[1..9]),
-        clean: x[9] == 1,
-        characters: x[10..10 + CELLS].to_vec(),
-        marks: x[10 + CELLS..10 + 2 * CELLS].to_vec(),
+        magazine: receiver.selection.magazine,
+        header: receiver.header,
+        clean: receiver.open,
+        characters: receiver.characters,
+        marks: receiver.marks,
     }
 }
 
-/// "A lent record of n bytes is n times AA before the call."
-pub fn lent_record(length: usize) -> Vec<u8> {
-    vec![0xAA; length]
+/// A place, 8 bytes, high byte first.
+pub fn place_bytes(place: u64) -> [u8; 8] {
+    place.to_be_bytes()
 }
 
-/// ANSWER, four words.
-pub fn answer_words(a: &Answer) -> String {
-    format!("{} {} {} {}", a.number, a.kind, a.count, a.closing)
+/// The place of the first 8 bytes.
+pub fn place_of(x: &[u8]) -> u64 {
+    x[..8].iter().fold(0, |place, byte| place * 256 + *byte as u64)
 }
 
-/// SAME-OR-HEX.
-pub fn same_or_hex(before: &[u8], after: &[u8]) -> String {
-    if before == after {
-        "same".to_string()
-    } else {
-        hex(after)
-    }
+/// ANSWER, 4 bytes.
+pub fn answer_bytes(a: &Answer) -> [u8; 4] {
+    [a.number, a.kind, a.count, a.closing]
+}
+
+/// A step of a run: its entry, its length in two bytes, and its bytes.
+pub fn step(entry: char, bytes: &[u8]) -> Vec<u8> {
+    let mut out = vec![entry as u8];
+    out.extend(two_bytes(bytes.len()));
+    out.extend(bytes);
+    out
 }

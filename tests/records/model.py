@@ -1,17 +1,14 @@
 #!/usr/bin/env python3
-"""Page records, written from the paper's sentence: the data and the expected output of the program `records`.
+"""Page records, written and read as the paper's sentence has them: cases and answers for `tests/model/compare -`.
 
 The paper: "Bit-packed, most significant first: magazine 3 (0 for 8), page tens 4, units 4, hours tens 2, units 4, minutes tens 3, units 4, C4 to C14 in
 order 11, clean 1, zero 4; then 960 cells row by row, mark 2 and character 7. In all 1,085 bytes."
 
-    model.py DIR      writes DIR/data/written, DIR/data/read and DIR/stdout
+A record that is read is written again too, and must give the same bytes.
 """
-import os
-import sys
-
 LENGTH = 1085
 SPACE = 0x20
-LENT = 1100  # bytes of the buffer that the program lends, filled with AA
+LENT = b'\xaa'  # every byte of a buffer that is lent
 
 
 def put(bits, width, value):
@@ -141,31 +138,32 @@ READ = [
 ]
 
 
-def main(folder):
-    out = []
-    with open(os.path.join(folder, 'data', 'written'), 'wb') as f:
-        for p, lent in WRITTEN:
-            head = [p['magazine']] + [p[name] for name, _ in FIELDS[:6]] + [p['control'] >> 8, p['control'] & 255, p['clean'], lent >> 8, lent & 255]
-            f.write(bytes(head) + bytes(p['characters']) + bytes(p['marks']))
-            number = write_number(p, lent)
-            buffer = b'\xaa' * LENT
-            if number == 0:
-                buffer = packed(p) + buffer[LENGTH:]
-            out.append('written %d' % number)
-            out.append(buffer.hex())
-    with open(os.path.join(folder, 'data', 'read'), 'wb') as f:
-        for record in READ:
-            f.write(bytes([len(record) >> 8, len(record) & 255]) + record + bytes(LENT - len(record)))
-            number, p = read_number(record)
-            out.append('read %d' % number)
-            if p:
-                out.append(' '.join(str(p[name]) for name in ['magazine'] + [name for name, _ in FIELDS] + ['clean']))
-                out.extend('%d %d %d' % (k, m, c) for k, (c, m) in enumerate(zip(p['characters'], p['marks'])) if m)
-                out.append('same')
-    start = packed(MARKED_13)[:14]
-    assert start.hex(' ') == '20 00 00 00 10 10 08 04 02 01 00 80 40 20', start.hex(' ')
-    with open(os.path.join(folder, 'stdout'), 'w') as f:
-        f.write('\n'.join(out) + '\n')
+def form(p):
+    """A page's form in a case (tests/model/FORMAT.md)."""
+    head = [p['magazine']] + [0] * 7 + [p['clean'], 0] + [p[name] for name, _ in FIELDS[:6]] + [p['control'] >> 8, p['control'] & 255]
+    return bytes(head) + bytes(p['characters']) + bytes(p['marks'])
 
 
-main(sys.argv[1])
+def print_written(p, lent):
+    number = write_number(p, lent)
+    before = LENT * lent
+    after = before if number else packed(p) + before[LENGTH:]
+    print('w %s,%s' % (form(p).hex(), before.hex()))
+    print('= %02x %s' % (number, after.hex()))
+
+
+def print_read(record):
+    number, p = read_number(record)
+    print('d %s,' % record.hex())
+    print('= %02x %s' % (number, (form(p) if p else bytes(1938)).hex()))
+    if p:
+        assert packed(p) == record
+        print_written(p, LENGTH)
+
+
+start = packed(MARKED_13)[:14]
+assert start.hex(' ') == '20 00 00 00 10 10 08 04 02 01 00 80 40 20', start.hex(' ')
+for p, lent in WRITTEN:
+    print_written(p, lent)
+for record in READ:
+    print_read(record)

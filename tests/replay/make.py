@@ -1,12 +1,16 @@
 #!/usr/bin/env python3
-"""The cases that the program `replay` is bundled with, one of each sort and two malformed ones, and their answers.
+"""The cases that the programs `decode` and `replay` are bundled with, one of each sort and entry and one of a sort that is not known, and their answers.
 
-make.py cases     the case lines: crates/replay/stdin
-make.py answers   what it must write: crates/replay/stdout
+    make.py PROGRAM stdin      crates/PROGRAM/stdin
+    make.py PROGRAM stdout     what it must write: crates/PROGRAM/stdout
 
 Cases and answers are put together from pieces in hexadecimal that were worked out by hand from document 01: nothing here computes an answer.
 """
+import os
 import sys
+
+sys.path.insert(0, os.path.join(os.path.dirname(os.path.abspath(__file__)), "..", "model"))
+import form
 
 # A line's run-in and framing code. Packets as they stand, each byte end for end: message 0 is A8, 1 is 40, 9 is E3, and a space of odd parity 04.
 START = "5555e4"
@@ -28,45 +32,53 @@ ROWED = 960 * "20" + 8 * "00" + 72 * "02" + 880 * "00"
 NEVER = "100804020100804020"
 FRESH = "904824120904824120"
 RECORD = "2000000010" + NEVER + 4 * FRESH + 23 * 5 * NEVER
-PAGE = "01" + 8 * "00" + "01" + HEADED
+PAGE = "01" + 7 * "00" + "0100" + 8 * "00" + HEADED
 
-EXACT = "043d"
+# A lent record before a call. The length of a line, of a packet, and of the recording below: two lines and three bytes, and then those three.
+LENT = 1085 * "aa"
+LINE, PACKET, PLAYED, LEFT = "002d", "002a", "005d", "0003"
+RECORDING = START + HEADER_100 + START + HEADER_101 + START
 
-# (sort, input, answer)
-CASES = [
-    ("b", "15", "a8 0 1 1 1 1 0 15"),
-    ("n", START + HEADER_100, "0"),
-    ("a", HEADER_100, "0 whole 1 0 header " + 8 * "00" + " " + 8 * "15" + 32 * "20"),
-    ("s", ANY_100, "0 " + ANY_100 + SHUT + NEW),
-    ("l", ANY_100 + SHUT + NEW + EXACT + START + HEADER_100, "0 2 32 0 " + ANY_100 + OPEN + HEADED + " same"),
-    ("m", ANY_100 + OPEN + HEADED + EXACT + START + HEADER_101, "0 3 0 1 " + ANY_100 + SHUT + HEADED + " " + RECORD),
-    ("p", ANY_100 + OPEN + HEADED + EXACT + ROW_1, "0 1 40 0 " + ANY_100 + OPEN + ROWED + " same"),
-    # The header, an empty line, and another page's header.
-    ("e", ANY_100 + EXACT + "03" + "2d" + START + HEADER_100 + "00" + "2d" + START + HEADER_101,
-     "0 2 32 0 same 10 0 0 0 same 0 3 0 1 " + RECORD + " " + ANY_100 + SHUT + HEADED),
-    # The header, another page's header, and a line cut after three bytes.
-    ("r", ANY_100 + EXACT + START + HEADER_100 + START + HEADER_101 + START,
-     "stop 2 0 3 0 1 " + RECORD + " stop 1 10 0 0 0 same end 0 " + ANY_100 + SHUT + HEADED),
-    ("w", PAGE + EXACT, "0 " + RECORD),
-    ("d", RECORD, "0 " + PAGE),
-    # One unit: reserved bits set, parity 1, offset 7.
-    ("f", "0000" + "10" + "022c" + "e7e4" + ROW_1, "0 found 5 1 7 47"),
-    ("u", "99ff00", "unit 1 255 0 end 3"),
-    # Marked case 10, and spaces to the row's end.
-    ("g", "117f1e1220" + 35 * "20", "0 L20700000" + 3 * " C3f100000" + 36 * " C00200000"),
-    ("x", "", "malformed"),
-    ("s", "01", "malformed"),
-]
+LETTER, MOSAIC = b"L".hex(), b"C".hex()
+STEP_L, STEP_M, STEP_P, STEP_R = (letter.encode().hex() for letter in "lmpr")
+
+# Of each program: sort, input, record, answer.
+CASES = {
+    "decode": [
+        ("b", "15", None, "a8 00 01 01 01 01 00 15"),
+        ("n", START + HEADER_100, None, "00"),
+        ("a", HEADER_100, None, "00 03 01 00" + "00" + 8 * "00" + 8 * "15" + 32 * "20"),
+        # One unit: reserved bits set, parity 1, offset 7.
+        ("f", 8 * "00" + "10" + "022c" + "e7e4" + ROW_1, None, "00 01 07 00000005 0000002f"),
+        ("u", 8 * "00" + "99ff00", None, "00 ff 00 00000000 00000003"),
+        # Marked case 10, and spaces to the row's end.
+        ("g", "117f1e1220" + 35 * "20", None,
+         "00" + LETTER + "2007000000 0000" + 3 * (MOSAIC + "3f01000000 0000") + 36 * (MOSAIC + "0002000000 0000")),
+        ("x", "", None, "ff"),
+    ],
+    "replay": [
+        ("s", ANY_100, "", "00" + ANY_100 + SHUT + NEW),
+        ("r", ANY_100 + SHUT + NEW + STEP_L + LINE + START + HEADER_100, LENT, "00022000" + LENT + ANY_100 + OPEN + HEADED),
+        ("r", ANY_100 + OPEN + HEADED + STEP_M + LINE + START + HEADER_101, LENT, "00030001" + RECORD + ANY_100 + SHUT + HEADED),
+        ("r", ANY_100 + OPEN + HEADED + STEP_P + PACKET + ROW_1, LENT, "00012800" + LENT + ANY_100 + OPEN + ROWED),
+        # The header, an empty line, and another page's header.
+        ("r", ANY_100 + SHUT + NEW + STEP_L + LINE + START + HEADER_100 + STEP_L + "0000" + STEP_L + LINE + START + HEADER_101, LENT,
+         "00022000" + LENT + "0a000000" + LENT + "00030001" + RECORD + ANY_100 + SHUT + HEADED),
+        # A recording that is stopped by another page's header, then by a line cut after three bytes, and is then at its end.
+        ("r", ANY_100 + SHUT + NEW + STEP_R + PLAYED + RECORDING + STEP_R + LEFT + START + STEP_R + "0000", LENT,
+         "0002" + "00030001" + RECORD + "0001" + "0a000000" + RECORD + "0000" + "00ff0000" + RECORD + ANY_100 + SHUT + HEADED),
+        ("w", PAGE, LENT, "00" + RECORD),
+        ("d", RECORD, "", "00" + PAGE),
+        ("x", "", "", "ff"),
+    ],
+}
 
 
-def cases():
-    for sort, given, _ in CASES:
-        print("%s %04x %s" % (sort, len(given) // 2, given))
+def main(program, file):
+    for sort, given, record, answer in CASES[program]:
+        parts = [given] if record is None else [given, record]
+        made = form.framed(form.Case(sort, tuple(bytes.fromhex(part) for part in parts))) if file == "stdin" else bytes.fromhex(answer)
+        sys.stdout.buffer.write(made)
 
 
-def answers():
-    for _, _, answer in CASES:
-        print(answer)
-
-
-{"cases": cases, "answers": answers}[sys.argv[1]]()
+main(*sys.argv[1:])

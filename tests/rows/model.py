@@ -1,20 +1,11 @@
 #!/usr/bin/env python3
-"""What the program `rows` must write, from document 01 alone.
+"""Rows of codes and what they show, from document 01 alone: cases and answers for `tests/model/compare -`.
 
-A plain model of the section "Display cells", with the rows on which it is tried. Nothing here is taken from the code that is tried by
-it. `model.py FOLDER` writes FOLDER/data/rows, the rows as text, and FOLDER/stdout, what the program must write for them.
-
-A row in data/rows is a line of 85 bytes: how many codes the row has, as two hexadecimal digits, then 41 codes of two digits each, of
-which the first so many are the row, then a newline. For each row stdout has two lines: "shown" or "refused 25", and the 40 cells. A
-cell is L and the code of a letter, C and the bits of a contiguous mosaic, or S and those of a separated one; then foreground and
-background; then one digit, the sum of 1 for flash, 2 for conceal, 4 for boxed and 8 for double.
+A plain model of the section "Display cells", with the rows on which it is tried. Nothing here is taken from the code that is tried by it.
 """
-import os
 import random
-import sys
 
 COLUMNS = 40
-WIDEST = 41
 SPACE = ("L", 0x20)
 BLANK = ("C", 0)
 
@@ -106,13 +97,14 @@ def cells(codes):
 
 def answer(codes):
     if len(codes) == COLUMNS and all(0x00 <= code <= 0x7F for code in codes):
-        return "shown", cells(codes)
-    return "refused 25", [(("L", 0), 0, 0, False, False, False, False)] * COLUMNS
+        return 0, cells(codes)
+    return 25, [(("L", 0), 0, 0, False, False, False, False)] * COLUMNS
 
 
-def text(cell):
-    (kind, value), foreground, background, flash, conceal, boxed, double = cell
-    return "%s%02X%d%d%X" % (kind, value, foreground, background, flash + 2 * conceal + 4 * boxed + 8 * double)
+def form(cell):
+    """The eight bytes of a cell (tests/model/FORMAT.md)."""
+    (kind, value), *rest = cell
+    return bytes([ord(kind), value, *rest])
 
 
 def filled(codes, fill=0x20):
@@ -201,16 +193,8 @@ def marked_cases():
     assert cells(hexes("01 1D 41"))[2][:3] == (("L", 0x41), 1, 1)
 
 
-def main(folder):
-    marked_cases()
-    rows = [*worked_rows(), *refused_rows(), *random_rows()]
-    os.makedirs(os.path.join(folder, "data"), exist_ok=True)
-    with open(os.path.join(folder, "data", "rows"), "w") as data, open(os.path.join(folder, "stdout"), "w") as out:
-        for row in rows:
-            data.write("%02x%s\n" % (len(row), bytes(list(row) + [0x2A] * (WIDEST - len(row))).hex()))
-            word, line = answer(row)
-            out.write(word + "\n" + " ".join(text(cell) for cell in line) + "\n")
-
-
-if __name__ == "__main__":
-    main(sys.argv[1])
+marked_cases()
+for row in [*worked_rows(), *refused_rows(), *random_rows()]:
+    number, shown_cells = answer(row)
+    print("g", bytes(row).hex())
+    print("=", "%02x" % number, b"".join(form(cell) for cell in shown_cells).hex())

@@ -1,10 +1,15 @@
-"""Writes the recording of a small teletext service to standard output.
+"""Writes a recording of a small teletext service to standard output.
 
     python3 make.py > stdin
+    python3 make.py earlier > earlier
+    python3 make.py lost > lost
 
 The service has three magazines, sent in parallel: one line of magazine 1,
 one of magazine 2, one of magazine 3, and again, 150 lines in all. So line n
 of magazine m is line 3n - 3 + m of the recording, counting from 1.
+
+The two short recordings are of magazine 1 alone. In each a sending that must
+not be read out leaves rows in the record, and the next sending is clean.
 
 The charities, their references and the places are invented.
 
@@ -212,6 +217,29 @@ MAGAZINE_3 = """
     links
 """
 
+# What an earlier sending in doubt left: its row 10, with a digit missing, is
+# not sent again, and nothing is erased.
+EARLIER = """
+    page 100 at 12:01, erase
+    rows 1 9 of appeal
+    row 10 of appeal; one wrong bit in column 9
+    page 100 at 12:02                                # line 5: ends 100 at 12:01, in doubt
+    rows 1 9 of appeal
+    page 1FF at 12:03                                # line 8: ends 100 at 12:02, clean
+"""
+
+# What another page left: the header of page 101 is lost whole, and its rows 9
+# and 10 are filed under 100. They are not sent again, and nothing is erased.
+LOST = """
+    page 100 at 12:01, erase
+    row 1 of appeal
+    page 101 at 12:02, erase; two wrong bits in framing
+    rows 9 10 of fund
+    page 100 at 12:03                                # line 6: ends 100 at 12:01
+    row 1 of appeal
+    page 1FF at 12:04                                # line 8: ends 100 at 12:03, clean
+"""
+
 # ------------------------------------------------------------ codes of cells
 
 COLOURS = ["red", "green", "yellow", "blue", "magenta", "cyan", "white"]
@@ -344,5 +372,11 @@ def recording():
     return b"".join(one for three in zip(*streams) for one in three)
 
 
+def short(plan):
+    return b"".join(lines(1, plan))
+
+
 if __name__ == "__main__":
-    sys.stdout.buffer.write(recording())
+    name = "".join(sys.argv[1:])
+    made = {"": recording, "earlier": lambda: short(EARLIER), "lost": lambda: short(LOST)}
+    sys.stdout.buffer.write(made[name]())

@@ -1,2 +1,6 @@
-pub mod Arguments
+pub mod Fresh
+pub mod Lengths
+pub mod Putting
+pub mod Saying
 pub mod Unique
+pub mod Walking

@@ -1,3 +1,3 @@
-pub mod Asked
 pub mod Told
-pub mod Watched
+pub mod Said
+pub mod Private

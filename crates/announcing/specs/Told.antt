@@ -1,28 +1,22 @@
--- What is said of a page that closed. Nothing in doubt is ever read out: the text follows only where the page closed clean and no line was refused while it
--- was open. A refused line may have been a header that closes the page, so whoever feeds lines treats it as doubt.
-use mathlib.Core.Bool.{Bool, cond}
-use mathlib.Core.List.{List, [], _∷_, _++_}
-use Prim.Native.Nat.{ℕ, _+_, _%_}
-use lib.Dec.{ltb}
+-- What is said of a page that closed. Nothing in doubt is ever read out: the text follows only where the page is clean, and it is what was sent this time and nothing
+-- else. Cells that are not fresh print as spaces, and one line says which rows stand there from earlier and were left out.
+use mathlib.Core.Bool.{Bool, false, cond, _||_}
+use mathlib.Core.List.{List, [], _∷_, _++_, zipWith}
+use Prim.Native.Nat.{ℕ, zero, suc, _+_, _*_, _/_, _%_}
+use lib.Dec.{eqb, ltb}
+use lib.ListN.{take, drop}
+use Rattle.grid.specs.Grid.{columns, rows}
 use Rattle.packet.specs.declared.Header.{Header}
+use Rattle.page.specs.Lawful.{isFresh, older, space}
 use Rattle.page.specs.Reading.{pageRead}
+use Rattle.page.specs.Records.{recordLength}
+use Rattle.page.specs.declared.Cells.{Cells}
 use Rattle.page.specs.declared.Page.{Page}
 use Rattle.printing.specs.Pages.{lineFeed, pageText}
-use Rattle.receiver.specs.declared.Answer.{Answer}
-use Rattle.receiver.specs.declared.Answer.the-variants as answer
-use Rattle.receiver.specs.declared.Closing.the-variants as closing
-use Rattle.announcing.specs.declared.Told.{Told}
-use Rattle.announcing.specs.declared.Told.the-variants as told
+use Rattle.watch.specs.declared.Word.{Word}
+use Rattle.watch.specs.declared.Word.the-variants as word
 
--- which of the texts, by a line's answer and whether a line was refused while the page was open
-unfoldable pub toldOf : Answer → Bool → Told
-toldOf (answer.Taken kind count closing.None) gap = told.Nothing
-toldOf (answer.Taken kind count closing.Clean) gap = cond gap told.Missing told.Clean
-toldOf (answer.Taken kind count closing.Doubt) gap = told.Doubt
-toldOf answer.Unlawful gap = told.Nothing
-toldOf answer.ShortRecord gap = told.Nothing
-toldOf answer.WrongLength gap = told.Nothing
-toldOf answer.WrongFraming gap = told.Nothing
+-- ---- the line that says what closed
 
 -- a digit of 0 to 15: "0" to "9", "A" to "F"
 unfoldable pub digitText : ℕ → ℕ
@@ -37,27 +31,71 @@ headingText magazine header =
     ∷ digitText (header .«minutes_tens») ∷ digitText (header .«minutes_units») ∷ 0x3A ∷ []
 
 -- " clean"
-unfoldable pub cleanText : List ℕ
+abbrev pub cleanText : List ℕ
 cleanText = 0x20 ∷ 0x63 ∷ 0x6C ∷ 0x65 ∷ 0x61 ∷ 0x6E ∷ lineFeed
 
 -- " doubt"
-unfoldable pub doubtText : List ℕ
+abbrev pub doubtText : List ℕ
 doubtText = 0x20 ∷ 0x64 ∷ 0x6F ∷ 0x75 ∷ 0x62 ∷ 0x74 ∷ lineFeed
 
 -- " doubt, lines are missing"
-unfoldable pub missingText : List ℕ
+abbrev pub missingText : List ℕ
 missingText =
     0x20 ∷ 0x64 ∷ 0x6F ∷ 0x75 ∷ 0x62 ∷ 0x74 ∷ 0x2C ∷ 0x20 ∷ 0x6C ∷ 0x69 ∷ 0x6E ∷ 0x65 ∷ 0x73 ∷ 0x20 ∷ 0x61 ∷ 0x72 ∷ 0x65
     ∷ 0x20 ∷ 0x6D ∷ 0x69 ∷ 0x73 ∷ 0x73 ∷ 0x69 ∷ 0x6E ∷ 0x67 ∷ lineFeed
 
-unfoldable pub pageAnnounced : Told → Page → List ℕ
-unfolding headingText cleanText doubtText missingText pageText
-pageAnnounced told.Nothing page = []
-pageAnnounced told.Clean page = headingText (page .magazine) (page .header) ++ (cleanText ++ pageText (page .cells .characters))
-pageAnnounced told.Doubt page = headingText (page .magazine) (page .header) ++ doubtText
-pageAnnounced told.Missing page = headingText (page .magazine) (page .header) ++ missingText
+-- ---- what was sent this time
 
--- of the record that was written as the page closed
-unfoldable pub announced : Told → List ℕ → List ℕ
-unfolding pageAnnounced pageRead
-announced which «record» = pageAnnounced which (pageRead «record»)
+-- a fresh cell's character, and a space for any other cell
+unfoldable pub sentNow : ℕ → ℕ → ℕ
+unfolding isFresh
+sentNow character mark = cond (isFresh mark) character space
+
+unfoldable pub freshCharacters : Cells → List ℕ
+unfolding sentNow zipWith
+freshCharacters cells = zipWith sentNow (cells .characters) (cells .marks)
+
+-- ---- the rows that stand there from earlier
+
+-- one of some cells is marked older
+unfoldable pub oneOlder : List ℕ → Bool
+oneOlder [] = false
+oneOlder (mark ∷ marks) = eqb mark older || oneOlder marks
+
+-- a row's number behind a space: " 9", " 10"
+unfoldable pub rowNumber : ℕ → List ℕ
+unfolding digitText
+rowNumber row =
+    cond (ltb row 10) (0x20 ∷ digitText row ∷ []) (0x20 ∷ digitText (row / 10) ∷ digitText (row % 10) ∷ [])
+
+-- the numbers of those among so many rows of which a cell is marked older
+unfoldable pub olderRows : ℕ → List ℕ → List ℕ
+unfolding oneOlder rowNumber
+olderRows zero marks = []
+olderRows (suc row) marks = olderRows row marks ++ cond (oneOlder (take columns (drop (columns * row) marks))) (rowNumber row) []
+
+-- "rows from earlier, left out:"
+abbrev pub leftOutWords : List ℕ
+leftOutWords =
+    0x72 ∷ 0x6F ∷ 0x77 ∷ 0x73 ∷ 0x20 ∷ 0x66 ∷ 0x72 ∷ 0x6F ∷ 0x6D ∷ 0x20 ∷ 0x65 ∷ 0x61 ∷ 0x72 ∷ 0x6C ∷ 0x69 ∷ 0x65 ∷ 0x72 ∷ 0x2C
+    ∷ 0x20 ∷ 0x6C ∷ 0x65 ∷ 0x66 ∷ 0x74 ∷ 0x20 ∷ 0x6F ∷ 0x75 ∷ 0x74 ∷ 0x3A ∷ []
+
+-- no line where there are none
+unfoldable pub leftOutText : List ℕ → List ℕ
+unfolding oneOlder olderRows
+leftOutText marks = cond (oneOlder marks) (leftOutWords ++ (olderRows rows marks ++ lineFeed)) []
+
+-- ---- all that is said of a page, by the word
+
+unfoldable pub pageSaid : Word → Page → List ℕ
+unfolding headingText leftOutText freshCharacters pageText
+pageSaid word.None page = []
+pageSaid word.Clean page =
+    headingText (page .magazine) (page .header) ++ (cleanText ++ (leftOutText (page .cells .marks) ++ pageText (freshCharacters (page .cells))))
+pageSaid word.Doubt page = headingText (page .magazine) (page .header) ++ doubtText
+pageSaid word.Missing page = headingText (page .magazine) (page .header) ++ missingText
+
+-- of the record that was written as the page closed: what lies past it does not matter
+unfoldable pub announced : Word → List ℕ → List ℕ
+unfolding pageSaid pageRead
+announced which lent = pageSaid which (pageRead (take recordLength lent))

@@ -1,158 +1,53 @@
-// What the receiving program says: which page is asked for, which text goes with which answer, and what is kept of the lines that were fed.
+// What is said over lines: each page that closes, once and in order, and of a clean page what was sent this time and nothing else.
+ghost use mathlib.Core.Bool.{cond};
+ghost use mathlib.Core.List.{[], _++_};
 ghost use mathlib.Core.Path.{_≡_};
-ghost use lib.ListN.{length};
-ghost use Rattle.announcing.specs.Asked.{asked, askedFor, digitAt, isNumber, isTime, timeAsked, selectionAsked, valueAt};
-ghost use Rattle.announcing.specs.Told.{digitText, headingText, toldOf};
-ghost use Rattle.announcing.specs.Watched.{added, gapAfter, linesWatched, refusedAfter, stopWatched};
+ghost use Prim.Native.Nat.{_+_, _*_, _/_, _≤_, _<_, min};
+ghost use lib.ListN.{length, take};
+ghost use Rattle.grid.specs.Grid.{cellCount, rows};
+ghost use Rattle.packet.specs.Lines.{lineLength};
+ghost use Rattle.page.specs.Reading.{pageRead};
+ghost use Rattle.page.specs.Records.{recordLength};
+ghost use Rattle.printing.specs.Pages.{pageSize};
+ghost use Rattle.announcing.specs.Private.{Printable, Puts, Stops, Whole, cellsSaid};
+ghost use Rattle.announcing.specs.Said.{SaysAs, fitting, headingSize, leftOutSize, longest, starting};
+ghost use Rattle.announcing.specs.Told.{announced, digitText, freshCharacters, headingText, leftOutText, olderRows, oneOlder, rowNumber, sentNow};
+use grid::CELLS;
+use grid::COLUMNS;
+use grid::ROWS;
 use packet::Header;
-use receiver::Answer;
-use receiver::Closing;
-use receiver::Selection;
-use receiver::When;
-
-// The length of a page's number alone, and with a time code.
-pub const NUMBER: usize = 3;
-
-pub const TIMED: usize = 8;
+use packet::LINE_LENGTH;
+use page::Cells;
+use page::Page;
+use page::RECORD_LENGTH;
+use printing::PAGE;
+use receiver::Receiver;
+use watch::Watch;
+use watch::Word;
 
 // "page 100 at 12:34:"
-pub const HEADING: usize = 18;
+const HEADING: usize = 18;
 
-// The largest count.
-const MOST: u64 = 18446744073709551615;
+// " clean" and a line feed.
+const CLEAN: usize = 7;
 
-pub enum Asked {
-    Page(Selection),
-    NoPage,
-}
+// "rows from earlier, left out:", three bytes for each row, and a line feed.
+const LEFT_OUT: usize = 28 + 3 * ROWS + 1;
 
-// What is said of a line's answer. Only `Clean` is followed by the page.
-pub enum Told {
-    Nothing,
-    Clean,
-    Doubt,
-    // The receiver closed it clean, but a line was refused while it was open.
-    Missing,
-}
+// The most that is said of a line, which is of a clean page.
+pub const LONGEST: usize = HEADING + CLEAN + LEFT_OUT + PAGE;
 
-// How many lines were refused, by number.
-pub struct Refused {
-    pub by10: u64,
-    pub by11: u64,
-    pub by12: u64,
-    pub by18: u64,
-}
+// Marks of cells.
+const OLDER: u8 = 1;
 
-// What is kept beside the receiver: `gap` where a line was refused while the page was open.
-pub struct Watch {
-    pub gap: bool,
-    pub lines: u64,
-    pub refused: Refused,
-}
+const FRESH: u8 = 2;
 
-fn digit_at(argument: &[u8], place: usize) -> bool
-    ensures { λ r. ⌜ r ≡ digitAt (now (argument .entry)) place ⌝ }
-{
-    if place >= argument.len() {
-        return false;
-    }
-    let byte = argument[place];
-    (0x30 <= byte) & (byte <= 0x39)
-}
-
-fn value_at(argument: &[u8], place: usize) -> u8
-    ensures { λ r. ⌜ r ≡ valueAt (now (argument .entry)) place ⌝ }
-{
-    if place >= argument.len() {
-        return 0;
-    }
-    let byte = argument[place];
-    if byte < 0x30 { 0 } else { byte - 0x30 }
-}
-
-fn is_number(argument: &[u8]) -> bool
-    ensures { λ r. ⌜ r ≡ isNumber (now (argument .entry)) ⌝ }
-{
-    digit_at(argument, 0) & digit_at(argument, 1) & digit_at(argument, 2)
-}
-
-fn is_time(argument: &[u8]) -> bool
-    requires { ⌜ length (now argument) ≡ 8 ⌝ }
-    ensures { λ r. ⌜ r ≡ isTime (now (argument .entry)) ⌝ }
-{
-    (argument[3] == b'/')
-        & digit_at(argument, 4)
-        & digit_at(argument, 5)
-        & digit_at(argument, 6)
-        & digit_at(argument, 7)
-}
-
-fn time_asked(argument: &[u8]) -> When
-    ensures { λ r. ⌜ r ≡ timeAsked (now (argument .entry)) ⌝ }
-{
-    When::Time {
-        hours_tens: value_at(argument, 4),
-        hours_units: value_at(argument, 5),
-        minutes_tens: value_at(argument, 6),
-        minutes_units: value_at(argument, 7),
-    }
-}
-
-fn selection_asked(argument: &[u8], when: When) -> Selection
-    ensures { λ r. ⌜ r ≡ selectionAsked (now (argument .entry)) when ⌝ }
-{
-    Selection {
-        magazine: value_at(argument, 0),
-        tens: value_at(argument, 1),
-        units: value_at(argument, 2),
-        when,
-    }
-}
-
-// The page that an argument asks for.
-pub fn page_asked(argument: &[u8]) -> Asked
-    ensures { λ r. ⌜ askedFor r ≡ asked (now (argument .entry)) ⌝ }
-{
-    if argument.len() == NUMBER {
-        if is_number(argument) {
-            let when = When::Any;
-            return Asked::Page(selection_asked(argument, when));
-        }
-        return Asked::NoPage;
-    }
-    if argument.len() == TIMED {
-        if is_number(argument) & is_time(argument) {
-            let when = time_asked(argument);
-            return Asked::Page(selection_asked(argument, when));
-        }
-    }
-    Asked::NoPage
-}
-
-// Which text goes with an answer.
-pub fn text_for(answer: Answer, gap: bool) -> Told
-    ensures { λ r. ⌜ r ≡ toldOf answer gap ⌝ }
-{
-    match answer {
-        Answer::Taken {
-            kind: _,
-            count: _,
-            closing,
-        } => match closing {
-            Closing::None => Told::Nothing,
-            Closing::Clean => {
-                if gap {
-                    return Told::Missing;
-                }
-                Told::Clean
-            }
-            Closing::Doubt => Told::Doubt,
-        },
-        Answer::Unlawful => Told::Nothing,
-        Answer::ShortRecord => Told::Nothing,
-        Answer::WrongLength => Told::Nothing,
-        Answer::WrongFraming => Told::Nothing,
-    }
+// After some lines: the receiver, the watch beside it, how many bytes of the lines were used, and how many of the room the text takes.
+pub struct Announced {
+    pub receiver: Receiver,
+    pub watch: Watch,
+    pub used: usize,
+    pub length: usize,
 }
 
 fn digit_text(digit: u8) -> u8
@@ -163,7 +58,7 @@ fn digit_text(digit: u8) -> u8
 }
 
 // What stands before the word on a page that closed.
-pub fn heading(magazine: u8, header: Header) -> [u8; HEADING]
+fn heading(magazine: u8, header: Header) -> [u8; HEADING]
     ensures { λ r. ⌜ r ≡ headingText magazine header ⌝ }
 {
     [
@@ -188,72 +83,227 @@ pub fn heading(magazine: u8, header: Header) -> [u8; HEADING]
     ]
 }
 
-fn gap_after(gap: bool, is_open: bool, answer: Answer) -> bool
-    ensures { λ r. ⌜ r ≡ gapAfter gap «is_open» answer ⌝ }
+// Puts a text into the room at a place, and answers the place behind it.
+fn put(room: &mut [u8], at: usize, text: &[u8]) -> usize
+    requires { ⌜ at + length (now text) ≤ length (now room) ⌝ }
+    ensures { λ r. ⌜ Puts (now (text .entry)) (now (room .entry)) at (now (room .exit)) r ⌝ }
 {
-    match answer {
-        Answer::Taken {
-            kind: _,
-            count: _,
-            closing,
-        } => match closing {
-            Closing::None => gap,
-            Closing::Clean => false,
-            Closing::Doubt => false,
-        },
-        Answer::Unlawful => gap | is_open,
-        Answer::ShortRecord => gap | is_open,
-        Answer::WrongLength => gap | is_open,
-        Answer::WrongFraming => gap | is_open,
+    let mut i = 0;
+    while i < text.len() {
+        room[at + i] = text[i];
+        i += 1;
+    }
+    at + text.len()
+}
+
+// Whether one of some marks is older.
+fn one_older(marks: &[u8]) -> bool
+    ensures { λ r. ⌜ r ≡ oneOlder (now (marks .entry)) ⌝ }
+{
+    let mut found = false;
+    let mut i = 0;
+    while i < marks.len() {
+        found = found | (marks[i] == OLDER);
+        i += 1;
+    }
+    found
+}
+
+fn sent_now(character: u8, mark: u8) -> u8
+    ensures { λ r. ⌜ r ≡ sentNow character mark ⌝ }
+{
+    if mark == FRESH { character } else { b' ' }
+}
+
+// What was sent this time: a space for each cell that is not fresh.
+fn fresh_characters(cells: Cells) -> [u8; CELLS]
+    requires { ⌜ Whole cells ⌝ }
+    ensures { λ r. ⌜ r ≡ freshCharacters cells ⌝ }
+{
+    let characters = cells.characters;
+    let marks = cells.marks;
+    let mut sent = [b' '; CELLS];
+    let mut i = 0;
+    while i < CELLS {
+        sent[i] = sent_now(characters[i], marks[i]);
+        i += 1;
+    }
+    sent
+}
+
+fn put_row_number(room: &mut [u8], at: usize, row: usize) -> usize
+    requires { ⌜ (at + 3 ≤ length (now room)) × (row < rows) ⌝ }
+    ensures { λ r. ⌜ Puts (rowNumber row) (now (room .entry)) at (now (room .exit)) r ⌝ }
+{
+    let number = row as u8;
+    if number < 10 {
+        return put(room, at, &[b' ', digit_text(number)]);
+    }
+    put(
+        room,
+        at,
+        &[b' ', digit_text(number / 10), digit_text(number % 10)],
+    )
+}
+
+fn put_if_older(room: &mut [u8], at: usize, row: usize, marks: &[u8]) -> usize
+    requires { ⌜ (at + 3 ≤ length (now room)) × (row < rows) ⌝ }
+    ensures { λ r. ⌜ Puts (cond (oneOlder (now (marks .entry))) (rowNumber row) []) (now (room .entry)) at (now (room .exit)) r ⌝ }
+{
+    if one_older(marks) {
+        return put_row_number(room, at, row);
+    }
+    at
+}
+
+fn put_older_rows(room: &mut [u8], at: usize, marks: &[u8]) -> usize
+    requires { ⌜ (at + 3 * rows ≤ length (now room)) × (length (now marks) ≡ cellCount) ⌝ }
+    ensures { λ r. ⌜ Puts (olderRows rows (now (marks .entry))) (now (room .entry)) at (now (room .exit)) r ⌝ }
+{
+    let mut end = at;
+    let mut row = 0;
+    while row < ROWS {
+        let from = COLUMNS * row;
+        let to = from + COLUMNS;
+        end = put_if_older(room, end, row, &marks[from..to]);
+        row += 1;
+    }
+    end
+}
+
+// The line that says which rows were left out, where there are some.
+fn put_left_out(room: &mut [u8], at: usize, marks: &[u8]) -> usize
+    requires { ⌜ (at + leftOutSize ≤ length (now room)) × (length (now marks) ≡ cellCount) ⌝ }
+    ensures { λ r. ⌜ Puts (leftOutText (now (marks .entry))) (now (room .entry)) at (now (room .exit)) r ⌝ }
+{
+    if one_older(marks) {
+        let words = put(room, at, b"rows from earlier, left out:");
+        let numbers = put_older_rows(room, words, marks);
+        return put(room, numbers, b"\n");
+    }
+    at
+}
+
+// A clean page, behind its line.
+fn put_cells(room: &mut [u8], at: usize, cells: Cells) -> usize
+    requires { ⌜ (at + (leftOutSize + pageSize) ≤ length (now room)) × Printable cells ⌝ }
+    ensures { λ r. ⌜ Puts (cellsSaid cells) (now (room .entry)) at (now (room .exit)) r ⌝ }
+{
+    let marks = cells.marks;
+    let rows = put_left_out(room, at, &marks);
+    let sent = fresh_characters(cells);
+    let page = printing::printed_page(&sent);
+    let text = page.text;
+    put(room, rows, &text)
+}
+
+// The line that says what closed.
+fn put_line(room: &mut [u8], at: usize, page: Page, word: &[u8]) -> usize
+    requires { ⌜ at + (headingSize + length (now word)) ≤ length (now room) ⌝ }
+    ensures { λ r. ⌜ Puts (headingText (page .magazine) (page .header) ++ now (word .entry)) (now (room .entry)) at (now (room .exit)) r ⌝ }
+{
+    let header = page.header;
+    let heading = heading(page.magazine, header);
+    let end = put(room, at, &heading);
+    put(room, end, word)
+}
+
+// The record alone, where more was lent.
+fn first_bytes(record: &[u8]) -> &[u8]
+    ensures { λ r. ⌜ now r ≡ take recordLength (now («record» .entry)) ⌝ }
+{
+    if record.len() < RECORD_LENGTH {
+        return record;
+    }
+    &record[..RECORD_LENGTH]
+}
+
+fn page_in(record: &[u8]) -> Page
+    ensures { λ r. ⌜ r ≡ pageRead (take recordLength (now («record» .entry))) ⌝ }
+{
+    let read = page::read_record(first_bytes(record));
+    let page = read.page;
+    page
+}
+
+// All that is said of a line by its word, from the record that was written where it closed a page.
+fn put_announced(room: &mut [u8], at: usize, word: Word, record: &[u8]) -> usize
+    requires { ⌜ at + longest ≤ length (now room) ⌝ }
+    ensures { λ r. ⌜ Puts (announced word (now («record» .entry))) (now (room .entry)) at (now (room .exit)) r ⌝ }
+{
+    match word {
+        Word::None => at,
+        Word::Clean => {
+            let page = page_in(record);
+            let line = put_line(room, at, page, b" clean\n");
+            let cells = page.cells;
+            put_cells(room, line, cells)
+        }
+        Word::Doubt => put_line(room, at, page_in(record), b" doubt\n"),
+        Word::Missing => put_line(room, at, page_in(record), b" doubt, lines are missing\n"),
     }
 }
 
-fn added_to(count: u64, more: u64) -> u64
-    ensures { λ r. ⌜ r ≡ added count more ⌝ }
+// How far so many lines go: a part at the end that is no whole line counts as one.
+fn bytes_of(used: usize, rest: usize) -> usize
+    ensures { λ r. ⌜ r ≡ min (used * lineLength) rest ⌝ }
 {
-    let room = MOST - count;
-    if more < room { count + more } else { MOST }
-}
-
-fn refused_after(counts: Refused, answer: Answer) -> Refused
-    ensures { λ r. ⌜ r ≡ refusedAfter counts answer ⌝ }
-{
-    let mut after = counts;
-    match answer {
-        Answer::Taken {
-            kind: _,
-            count: _,
-            closing: _,
-        } => (),
-        Answer::WrongLength => after.by10 = added_to(counts.by10, 1),
-        Answer::WrongFraming => after.by11 = added_to(counts.by11, 1),
-        Answer::ShortRecord => after.by12 = added_to(counts.by12, 1),
-        Answer::Unlawful => after.by18 = added_to(counts.by18, 1),
+    if used > rest / LINE_LENGTH {
+        return rest;
     }
-    after
+    used * LINE_LENGTH
 }
 
-// After lines that were taken and closed nothing.
-pub fn watch_lines(watch: Watch, used: usize) -> Watch
-    ensures { λ r. ⌜ r ≡ linesWatched watch used ⌝ }
+// Plays to the next stop, or to the end of the lines, and says what closed there.
+fn to_next_stop(before: Announced, lines: &[u8], record: &mut [u8], room: &mut [u8]) -> Announced
+    requires { ⌜ (before .length + longest ≤ length (now room)) × (before .used + length (now lines) ≤ length (now room)) ⌝ }
+    ensures { λ r. ⌜ Stops before (now (lines .entry)) (now («record» .entry)) (now (room .entry)) r (now («record» .exit)) (now (room .exit)) ⌝ }
 {
-    let refused = watch.refused;
-    Watch {
-        gap: watch.gap,
-        lines: added_to(watch.lines, used as u64),
-        refused,
+    let receiver = before.receiver;
+    let recorded = receiver::take_recording(receiver, lines, record);
+    let watch = before.watch;
+    let watched = watch::watch_recording(watch, recorded);
+    let word = watched.word;
+    let length = put_announced(room, before.length, word, record);
+    let next = recorded.receiver;
+    let more = watched.watch;
+    Announced {
+        receiver: next,
+        watch: more,
+        used: before.used + bytes_of(recorded.used, lines.len()),
+        length,
     }
 }
 
-// After lines of which the last stopped the recording: its answer, and whether a page was open after it.
-pub fn watch_stop(watch: Watch, used: usize, is_open: bool, answer: Answer) -> Watch
-    ensures { λ r. ⌜ r ≡ stopWatched watch used «is_open» answer ⌝ }
+// How many bytes of lines the room has room for, whatever is said of them.
+fn fitting_bytes(lines: usize, room: usize) -> usize
+    ensures { λ r. ⌜ r ≡ min (room / longest * lineLength) lines ⌝ }
 {
-    let counts = watch.refused;
-    let refused = refused_after(counts, answer);
-    Watch {
-        gap: gap_after(watch.gap, is_open, answer),
-        lines: added_to(watch.lines, used as u64),
-        refused,
+    let most = room / LONGEST * LINE_LENGTH;
+    if most < lines { most } else { lines }
+}
+
+// Enters lines, end to end, and says what closes into the room: as many lines as the room has room for. What lies in the room behind the text is as it was.
+pub fn announce(
+    receiver: Receiver,
+    watch: Watch,
+    lines: &[u8],
+    record: &mut [u8],
+    room: &mut [u8],
+) -> Announced
+    ensures { λ r. ⌜ SaysAs (starting receiver watch (now («record» .entry))) (fitting (now (room .entry)) (now (lines .entry))) r (now («record» .exit)) (now (room .entry)) (now (room .exit)) ⌝ }
+{
+    let end = fitting_bytes(lines.len(), room.len());
+    let mut state = Announced {
+        receiver,
+        watch,
+        used: 0,
+        length: 0,
+    };
+    while state.used < end {
+        let used = state.used;
+        let next = to_next_stop(state, &lines[used..end], record, room);
+        state = next;
     }
+    state
 }

@@ -1,17 +1,20 @@
--- What the rule of Hamming bytes gives: it inverts the sixteen sent bytes, mends one wrong bit, refuses two, and of the 256 bytes 16 are exact,
--- 128 corrected and 112 refused.
-use mathlib.Core.Path.{_≡_, refl}
+-- What the rule of Hamming bytes gives: it inverts the sixteen sent bytes, mends one wrong bit and names it, refuses two, and of the 256 bytes 16 are
+-- exact, 128 corrected and 112 refused.
+use mathlib.Core.Path.{_≡_, refl, ap₂}
 use mathlib.Core.Logic.{_⊎_, inl, inr}
-use mathlib.Core.Bool.{Bool, true, false, cond}
+use mathlib.Core.Bool.{Bool, true, false, cond, _&&_}
 use mathlib.Core.Option.{Option, none, some}
 use Prim.Native.Nat.{ℕ, zero, suc, _≤_, _<_}
 use native.Mathlib.Omega.{arith}
-use lib.Dec.{T}
+use lib.Bits.{bitXor}
+use lib.Dec.{T, eqb, eqb→eq}
 use Rattle.laws.specs.Below.{allBelow, countBelow}
 use Rattle.laws.proofs.Below.{at}
+use Rattle.laws.proofs.Bools.{both-left, both-right}
 use Rattle.laws.proofs.Found.{is, is-it, isNone, is-none}
-use Rattle.coding.specs.Bits.{bit, weight, distance}
-use Rattle.coding.specs.Hamming.{sentMessage, testsOf, exact, corrected, mended, judged, messageBits, message}
+use Rattle.laws.specs.Digits.{bit, weight}
+use Rattle.coding.specs.Bits.{distance}
+use Rattle.coding.specs.Hamming.{Decoded, exactly, mendedAt, refused, sentMessage, testsOf, exact, corrected, mended, judged, decoded, messageBits, messageIn, message}
 
 -- ---- a message is below 16
 
@@ -19,7 +22,7 @@ abbrev pub Small : Option ℕ → Type 0
 Small none = Unit {0}
 Small (some m) = m < 16
 
-cond-small : (t : Bool) (x y : Option ℕ) → Small x → Small y → Small (cond t x y)
+cond-small : (t : Bool) (x y : Decoded) → Small (messageIn x) → Small (messageIn y) → Small (messageIn (cond t x y))
 cond-small true x y p q = p
 cond-small false x y p q = q
 
@@ -28,10 +31,10 @@ unfolding messageBits bit weight
 bits-small byte = omega arith
 
 pub small : (byte : ℕ) → Small (message byte)
-unfolding message judged
+unfolding message messageIn decoded judged
 small byte =
     cond-small (exact (testsOf byte)) _ _ (bits-small byte)
-    (cond-small (corrected (testsOf byte)) _ none (bits-small (mended (testsOf byte) byte)) tt)
+    (cond-small (corrected (testsOf byte)) _ refused (bits-small (mended (testsOf byte) byte)) tt)
 
 -- ---- what is sent and what is received: one test over all messages and bytes
 
@@ -84,6 +87,37 @@ module _ (m byte : ℕ) (m-is : m < 16) (byte-is : byte < 256) where
 
   pub never-another : distance byte (sentMessage m) ≤ 2 → (message byte ≡ some m) ⊎ (message byte ≡ none)
   never-another = some-off m (message byte) (distance byte (sentMessage m)) tried
+
+-- ---- the wrong bit
+
+-- a message's byte with one bit wrong is corrected, to that message, and the bit is named
+abbrev mendsAt : ℕ → ℕ → Decoded → Bool
+mendsAt m position (exactly value) = false
+mendsAt m position (mendedAt value place) = eqb value m && eqb place position
+mendsAt m position refused = false
+
+-- the byte of m with the bit after b(n) wrong
+abbrev wrongAfter : ℕ → ℕ → ℕ
+wrongAfter m n = bitXor (sentMessage m) (weight (suc n))
+
+all-named : T (allBelow 16 (λ m. allBelow 8 (λ n. mendsAt m (suc n) (decoded (wrongAfter m n)))))
+unfolding allBelow sentMessage decoded weight
+all-named = tt
+
+mends-at : (m position : ℕ) (got : Decoded) → T (mendsAt m position got) → got ≡ mendedAt m position
+mends-at m position (exactly value) t = absurd t
+mends-at m position (mendedAt value place) t =
+    ap₂ mendedAt (eqb→eq value m (both-left (eqb value m) (eqb place position) t))
+    (eqb→eq place position (both-right (eqb value m) (eqb place position) t))
+mends-at m position refused t = absurd t
+
+-- for all sixteen messages and all eight positions
+pub wrong-bit-named : (m position : ℕ) → m < 16 → 1 ≤ position → position ≤ 8 → decoded (bitXor (sentMessage m) (weight position)) ≡ mendedAt m position
+wrong-bit-named m zero h low high = absurd (omega arith)
+wrong-bit-named m (suc n) h low high =
+    mends-at m (suc n) (decoded (wrongAfter m n))
+    (at 8 (λ k. mendsAt m (suc k) (decoded (wrongAfter m k)))
+    (at 16 (λ k. allBelow 8 (λ n. mendsAt k (suc n) (decoded (wrongAfter k n)))) all-named m h) n (omega arith))
 
 inverts-each : T (allBelow 16 (λ m. is m (message (sentMessage m))))
 unfolding allBelow sentMessage message

@@ -1,5 +1,6 @@
 pub mod Characters
 pub mod Damage
 pub mod Hamming
+pub mod Heard
 pub mod Turning
 pub mod Unique

@@ -33,8 +33,11 @@ unfolding messagePaper
 message-back (message.Good value) = refl
 message-back message.Refused = refl
 
+pub message-is : (m n : Message) → messagePaper m ≡ messagePaper n → m ≡ n
+message-is = told-apart messagePaper (paperBack message.Good message.Refused) message-back
+
 pub message-of-unique : Unique message-of.ended message-of-reads.Post
-message-of-unique κs a r r′ ws ws′ p q = (told-apart messagePaper (paperBack message.Good message.Refused) message-back r r′ (p ∙ sym q), refl)
+message-of-unique κs a r r′ ws ws′ p q = (message-is r r′ (p ∙ sym q), refl)
 
 character-back : (c : Character) → paperBack character.Good character.Even (characterPaper c) ≡ c
 unfolding characterPaper

@@ -1,18 +1,10 @@
--- Document 01, "From bits to packets": the bits of a byte, turning it end for end, how many bits differ, and the framing test.
+-- Document 01, "From bits to packets": turning a byte end for end, how many bits differ, and the framing test.
 use mathlib.Core.Bool.{Bool}
-use Prim.Native.Nat.{ℕ, zero, suc, _+_, _-_, _*_, _/_, _%_, _^_}
+use Prim.Native.Nat.{ℕ, zero, suc, _+_, _-_, _*_, _%_}
 use lib.Dec.{eqb, leb}
 use lib.Bits.{bitXor}
 use lib.Count.{ones}
-
--- b1 has weight 1 and b8 weight 128
-unfoldable pub weight : ℕ → ℕ
-weight n = 2 ^ (n - 1)
-
--- the bit bN of a byte
-unfoldable pub bit : ℕ → ℕ → ℕ
-unfolding weight
-bit byte n = byte / weight n % 2
+use Rattle.laws.specs.Digits.{weight, bit}
 
 -- the number whose bits b1 to bN are given
 unfoldable pub fromBits : ℕ → (ℕ → ℕ) → ℕ

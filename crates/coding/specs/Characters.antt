@@ -5,7 +5,8 @@ use mathlib.Core.Option.{Option, none, some}
 use Prim.Native.Nat.{ℕ, _+_, _%_}
 use lib.Count.{ones}
 use Rattle.laws.specs.Paper.{Paper, accepted, unnumbered}
-use Rattle.coding.specs.Bits.{odd, weight}
+use Rattle.laws.specs.Digits.{weight}
+use Rattle.coding.specs.Bits.{odd}
 use Rattle.coding.specs.declared.Character.{Character}
 use Rattle.coding.specs.declared.Character.the-variants.{Good, Even}
 

@@ -7,7 +7,8 @@ use lib.Bits.{bitAnd, bitXor}
 use lib.Count.{ones}
 use lib.ListN.{getD}
 use Rattle.laws.specs.Paper.{Paper, accepted, unnumbered}
-use Rattle.coding.specs.Bits.{weight, bit, odd}
+use Rattle.laws.specs.Digits.{weight, bit}
+use Rattle.coding.specs.Bits.{odd}
 use Rattle.coding.specs.declared.Message.{Message}
 use Rattle.coding.specs.declared.Message.the-variants.{Good, Refused}
 use Rattle.coding.specs.declared.Tests.{Tests}
@@ -74,16 +75,32 @@ unfoldable pub mended : Tests → ℕ → ℕ
 unfolding wrongBit weight
 mended tests byte = bitXor byte (weight (wrongBit (tests .a) (tests .b) (tests .c)))
 
--- what the tests make of a byte: its message, or none where D holds and another fails, which is refused
-unfoldable pub judged : Tests → ℕ → Option ℕ
-unfolding exact corrected mended messageBits
+-- what a byte is: exact, with its message; corrected, with its message and the position of its wrong bit, 1 to 8; or refused
+pub data Decoded : Type 0 where
+  exactly : ℕ → Decoded
+  mendedAt : ℕ → ℕ → Decoded
+  refused : Decoded
+
+-- by its tests: refused where D holds and another fails
+unfoldable pub judged : Tests → ℕ → Decoded
+unfolding exact corrected mended messageBits wrongBit
 judged tests byte =
-    cond (exact tests) (some (messageBits byte)) (cond (corrected tests) (some (messageBits (mended tests byte))) none)
+    cond (exact tests) (exactly (messageBits byte))
+    (cond (corrected tests) (mendedAt (messageBits (mended tests byte)) (wrongBit (tests .a) (tests .b) (tests .c))) refused)
+
+unfoldable pub decoded : ℕ → Decoded
+unfolding judged testsOf
+decoded byte = judged (testsOf byte) byte
 
 -- the message of a byte, or none where it is refused
+unfoldable pub messageIn : Decoded → Option ℕ
+messageIn (exactly value) = some value
+messageIn (mendedAt value position) = some value
+messageIn refused = none
+
 unfoldable pub message : ℕ → Option ℕ
-unfolding judged testsOf
-message byte = judged (testsOf byte) byte
+unfolding messageIn decoded
+message byte = messageIn (decoded byte)
 
 -- the paper's number and values: a refused Hamming byte is an answer without a number
 unfoldable pub messagePaper : Message → Paper

@@ -1,3 +1,4 @@
 pub mod Bits
 pub mod Characters
 pub mod Hamming
+pub mod Heard

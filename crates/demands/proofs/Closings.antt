@@ -6,36 +6,36 @@ use mathlib.Core.Option.{Option, none, some}
 use Prim.Native.Nat.{ℕ, _+_, _-_, _*_, _≤_, _<_}
 use native.Mathlib.Decide.{decLt}
 use native.Mathlib.Omega.{arith}
-use lib.Dec.{T, not-T, eqb, eqb→eq}
+use lib.Dec.{T, not-T, eqb→eq}
 use lib.ListN.{length, getD, take, drop, replicate, getD-replicate, length-drop, length-take, length-replicate}
 use lib.Seq.{ext-getD, getD-drop, getD-take, take-at}
 use Rattle.laws.specs.Every.{every}
 use Rattle.laws.proofs.Keeps.{every-from}
 use Rattle.laws.proofs.Lists.{getD-part, length-part}
-use Rattle.packet.specs.Addresses.{lastRow}
 use Rattle.packet.specs.Sent.{damage, sentByRules, sentText}
-use Rattle.packet.specs.Texts.{columns, headerColumn}
-use Rattle.page.specs.Lawful.{never}
+use Rattle.grid.specs.Grid.{columns, lastRow, cellCount}
+use Rattle.packet.specs.Texts.{headerColumn}
+use Rattle.page.specs.Lawful.{fresh, isFresh, never}
 use Rattle.page.specs.Reading.{pageRead, readAnswer}
-use Rattle.page.specs.Records.{cellCount, recordLength, recordOf}
+use Rattle.page.specs.Records.{recordLength, recordOf}
 use Rattle.page.specs.declared.Cells.{Cells}
 use Rattle.page.specs.declared.Page.{Page}
 use Rattle.page.specs.declared.ReadAnswer.the-variants.{Read}
-use Rattle.page.proofs.Trips.{page-read-back, reads-written}
-use Rattle.receiver.specs.Cells.{fresh}
+use Rattle.page.proofs.Trips.{length-record, page-read-back, reads-written}
 use Rattle.receiver.specs.Entries.{Entered, closingNumber, entered, lawful}
-use Rattle.receiver.specs.Lines.{Outcome, held}
+use Rattle.receiver.specs.Effects.{Outcome, held}
 use Rattle.receiver.specs.declared.Closing.{Closing}
 use Rattle.receiver.specs.declared.Closing.the-variants as closing
 use Rattle.receiver.specs.declared.Receiver.{Receiver}
 use Rattle.receiver.specs.declared.Selection.{Selection}
-use Rattle.receiver.proofs.Closings.{Clean, clean-closing, length-record}
+use Rattle.receiver.proofs.Carried.{Going}
+use Rattle.receiver.proofs.Closings.{Clean, clean-closing}
 use Rattle.receiver.proofs.Marks.{header-columns-never}
 use Rattle.receiver.proofs.Sized.{Sized}
 use Rattle.receiver.proofs.Writes.{page-written}
-use Rattle.demands.specs.Demands.{A, B, ClosesClean, Fed, Follows, Holds, Received, RowHolds, recordAfter, throughout}
+use Rattle.demands.specs.Demands.{A, B, Follows, Holds, Ready, Received, RowHolds, recordAfter, throughout}
 use Rattle.demands.specs.Runs.{Run, closingOf, entryAt, lastText, receivedAt, rowPart, sentAt}
-use Rattle.demands.proofs.Keeping.{Opening, RowIs, is-row, row-is}
+use Rattle.demands.proofs.Keeping.{Opening, RowIs, header-ends, is-end, row-is}
 use Rattle.demands.proofs.Through.{Stands, closing-entered, entry-is, held-at, lent-entered, lentAt, line-at, outcomeAt, packetAt, receiverAt, standing}
 use Rattle.demands.proofs.Told.{length-sent, whole-sent}
 
@@ -61,6 +61,10 @@ module _ (row : ℕ) (high : row ≤ lastRow) (xs : List ℕ) (full : length xs 
       getD-drop from (rowPart row xs) k 0
       ∙ (row-cell (from + k) below ∙ (each (from + k) (omega arith) below ∙ sym (getD-drop from ys k 0))))
 
+fresh-is : (mark : ℕ) → T (isFresh mark) → mark ≡ fresh
+unfolding isFresh
+fresh-is mark t = eqb→eq mark fresh t
+
 row-holds : (cells : Cells) → Sized cells → (row : ℕ) → row ≤ lastRow → (text : Option (List ℕ)) → RowIs cells row text → RowHolds cells row text
 row-holds cells full row high (some text) is = (
   row-is-list row high (cells .characters) (full .0) 0 text (is .0) (λ c low h. is .1 c h .0),
@@ -68,11 +72,11 @@ row-holds cells full row high (some text) is = (
       (λ c low h. is .1 c h .1 ∙ sym (getD-replicate columns c fresh 0 h)),
 )
 row-holds cells full row high none is =
-    every-from (λ (mark : ℕ). not (eqb mark fresh)) 0 (rowPart row (cells .marks))
+    every-from (λ (mark : ℕ). not (isFresh mark)) 0 (rowPart row (cells .marks))
     (λ k h.
     let below : k < columns = omega (arith, length-row row high (cells .marks) (full .1)) in
-    not-T (eqb (getD (rowPart row (cells .marks)) k 0) fresh)
-    (λ t. is k below (sym (row-cell row high (cells .marks) (full .1) k below) ∙ eqb→eq (getD (rowPart row (cells .marks)) k 0) fresh t)))
+    not-T (isFresh (getD (rowPart row (cells .marks)) k 0))
+    (λ t. is k below (sym (row-cell row high (cells .marks) (full .1) k below) ∙ fresh-is (getD (rowPart row (cells .marks)) k 0) t)))
 
 -- row 0's columns 0 to 7
 header-columns : (receiver : Receiver) → T (lawful receiver) → Sized (receiver .cells) → take headerColumn (rowPart 0 (receiver .cells .marks)) ≡ replicate headerColumn never
@@ -116,8 +120,8 @@ pub one-header : (run : Run) (i k j : ℕ) → Follows run i j → Follows run k
 one-header run i k j p q = by (decLt i k) (decLt k i)
   where
     by : Dec (i < k) → Dec (k < i) → k ≡ i
-    by (yes less) d = absurd (p .none-between k less (q .before) (q .header))
-    by (no a) (yes less) = absurd (q .none-between i less (p .before) (p .header))
+    by (yes less) d = absurd (p .none-between k less (q .before) (header-ends (run .selection .magazine) (sentAt (run .lines) k) (q .header)))
+    by (no a) (yes less) = absurd (q .none-between i less (p .before) (header-ends (run .selection .magazine) (sentAt (run .lines) i) (p .header)))
     by (no a) (no b) = omega arith
 
 -- ---- the clean word
@@ -128,32 +132,33 @@ clean-is closing.None e = absurd (omega arith)
 clean-is closing.Clean e = refl
 clean-is closing.Doubt e = absurd (omega arith)
 
--- ---- A
+-- ---- a line that closes clean
 
-module _ (run : Run) (fed : Fed run) (j : ℕ) (closes : ClosesClean run j) where
+module _ (run : Run) (ready : Ready run) (j d : ℕ) (mild : d ≤ throughout) (sent : T (sentByRules (sentAt (run .lines) j)))
+    (damaged : T (damage d (sentAt (run .lines) j) (receivedAt (run .lines) j))) (word : closingOf (entryAt run j) ≡ closingNumber closing.Clean) where
   abbrev receiver : Receiver
-  receiver = receiverAt run (fed .ready) j
+  receiver = receiverAt run ready j
 
   abbrev lent : List ℕ
-  lent = lentAt run (fed .ready) j
+  lent = lentAt run ready j
 
   abbrev outcome : Outcome
-  outcome = outcomeAt run (fed .ready) j
+  outcome = outcomeAt run ready j
 
   stands : Stands run receiver lent
-  stands = standing run (fed .ready) j
-
-  line-is : T (sentByRules (sentAt (run .lines) j)) × T (damage throughout (sentAt (run .lines) j) (receivedAt (run .lines) j))
-  line-is = line-at run fed j (closes .line)
+  stands = standing run ready j
 
   entry : entryAt run j ≡ entered outcome
-  entry = entry-is run (fed .ready) throughout j (line-is .0) (line-is .1)
+  entry = entry-is run ready d j sent damaged
 
-  closed-clean : Clean receiver (packetAt run (fed .ready) j) lent outcome
+  closed-clean : Clean receiver (packetAt run ready j) lent outcome
   closed-clean =
-      clean-closing receiver (packetAt run (fed .ready) j) lent
+      clean-closing receiver (packetAt run ready j) lent
       (clean-is (outcome .closing)
-      (sym (closing-entered outcome) ∙ (ap closingOf (sym entry) ∙ closes .word)))
+      (sym (closing-entered outcome) ∙ (ap closingOf (sym entry) ∙ word)))
+
+  pub was-going : Going receiver
+  was-going = (closed-clean .was-open, closed-clean .undoubted)
 
   record-is : recordAfter run j ≡ recordOf (held receiver)
   record-is =
@@ -166,41 +171,46 @@ module _ (run : Run) (fed : Fed run) (j : ℕ) (closes : ClosesClean run j) wher
   reads-held = let answer = page-written receiver (stands .is) (rw (closed-clean .was-open) tt) in
       (reads-written (held receiver) (stands .sized) answer, page-read-back (held receiver) (stands .sized) answer)
 
-  opened-by : (i : ℕ) × Opening run j receiver i
-  opened-by = held-at run fed j (omega (arith, closes .line)) (closed-clean .was-open, closed-clean .undoubted)
+  module _ (i : ℕ) (opening : Opening run j receiver i) where
+    pub follows-here : Follows run i j
+    follows-here =
+        let (ours, zeroth) = whole-sent d mild (sentAt (run .lines) j) (receivedAt (run .lines) j) sent damaged
+        (receiver .selection .magazine) 0 (closed-clean .ours) in
+        record {
+          header = opening .header;
+          next = is-end (run .selection .magazine) (sentAt (run .lines) j) (ours ∙ ap (λ (x : Selection). x .magazine) (stands .selects)) zeroth;
+          before = opening .before;
+          none-between = opening .none-between;
+        }
 
-  received : Received run j (opened-by .0)
-  received =
-      let (i, opening) = opened-by in
-      let (ours, zeroth) = whole-sent (sentAt (run .lines) j) (receivedAt (run .lines) j) (line-is .0)
-      (line-is .1) (receiver .selection .magazine) 0 (closed-clean .ours) in
-      record {
-        follows =
-            record {
-              header = opening .header;
-              next = is-row (run .selection .magazine) 0 (sentAt (run .lines) j) (ours ∙ ap (λ (x : Selection). x .magazine) (stands .selects)) zeroth;
-              before = opening .before;
-              none-between = opening .none-between;
-            };
-        matched = opening .matched;
-        kind = opening .kind;
-        reads = ap readAnswer record-is ∙ reads-held .0;
-        holds =
-            subst (Holds run i j) (sym (ap pageRead record-is ∙ reads-held .1))
-            (held-holds run j receiver lent stands (closed-clean .undoubted) i opening
-            (length-sent (sentAt (run .lines) i) (line-at run fed i (omega (arith, opening .before, closes .line)) .0)));
-      }
+    pub received-here : T (sentByRules (sentAt (run .lines) i)) → Received run j i
+    received-here byRules =
+        record {
+          follows = follows-here;
+          matched = opening .matched;
+          kind = opening .kind;
+          reads = ap readAnswer record-is ∙ reads-held .0;
+          holds =
+              subst (Holds run i j) (sym (ap pageRead record-is ∙ reads-held .1))
+              (held-holds run j receiver lent stands (closed-clean .undoubted) i opening (length-sent (sentAt (run .lines) i) byRules));
+        }
+
+-- ---- A
 
 pub proof-a : A
 proof-a run fed j closes =
-    let i : ℕ = opened-by run fed j closes .0 in
-    let it : Received run j i = received run fed j closes in
+    let (sent, damaged) = line-at run fed j (closes .line) in
+    let going = was-going run (fed .ready) j throughout (omega arith) sent damaged (closes .word) in
+    let (i, opening) = held-at run fed j (omega (arith, closes .line)) going in
+    let it : Received run j i =
+    received-here run (fed .ready) j throughout (omega arith) sent damaged (closes .word) i opening
+    (line-at run fed i (omega (arith, opening .before, closes .line)) .0) in
     (i, it, (λ k other. one-header run i k j (it .follows) (other .follows)))
 
 -- ---- B
 
-all-fresh-not : T (every (λ (mark : ℕ). not (eqb mark fresh)) (replicate columns fresh)) → ⊥
-unfolding every
+all-fresh-not : T (every (λ (mark : ℕ). not (isFresh mark)) (replicate columns fresh)) → ⊥
+unfolding every isFresh
 all-fresh-not t = t
 
 -- one row of one page was sent with one text, or not at all

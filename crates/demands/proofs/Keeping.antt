@@ -11,25 +11,26 @@ use borrow.Author.Tests.{eq-eqb, lt-ltb, le-ltb}
 use lib.Dec.{T, eqb, ltb, eqb→eq}
 use lib.ListN.{length, getD}
 use Rattle.laws.proofs.Bools.{passed, both-left, both-right}
-use Rattle.packet.specs.Addresses.{lastRow}
 use Rattle.packet.specs.Sent.{damage, linePacket, sentByRules, sentHeader, sentMagazine, sentRow, sentText}
-use Rattle.packet.specs.Texts.{columns, headerColumn, textOf}
+use Rattle.grid.specs.Grid.{columns, lastRow}
+use Rattle.packet.specs.Texts.{headerColumn, textOf}
 use Rattle.packet.specs.declared.Header.{Header}
 use Rattle.packet.proofs.Sent.{received-packet}
 use Rattle.page.specs.declared.Cells.{Cells}
-use Rattle.receiver.specs.Cells.{firstColumn, fresh}
-use Rattle.receiver.specs.Lines.{Outcome, nothing, taken}
+use Rattle.page.specs.Lawful.{fresh}
+use Rattle.receiver.specs.Cells.{firstColumn}
+use Rattle.receiver.specs.Effects.{Outcome, taken, unclosed}
 use Rattle.receiver.specs.Selections.{matches}
 use Rattle.receiver.specs.declared.Receiver.{Receiver}
 use Rattle.receiver.specs.declared.Selection.{Selection}
 use Rattle.receiver.proofs.Carried.{Going, Passed, WholeRow, going-on}
-use Rattle.receiver.proofs.Effects.{Opens, kind-2-opens}
+use Rattle.receiver.proofs.Outcomes.{Opens, kind-2-opens}
 use Rattle.receiver.proofs.Rows.{Stays, characterAt, header-first, markAt, text-first}
 use Rattle.receiver.proofs.Sized.{Sized}
 use Rattle.receiver.proofs.Changes.{Shown, opening-header, opening-none-fresh, opening-text, storing-header, storing-others, storing-text}
 use Rattle.demands.specs.Demands.{throughout}
-use Rattle.demands.specs.Runs.{Line, Run, entryAt, isRow, kindOf, lastText, receivedAt, sentAt}
-use Rattle.demands.proofs.Told.{column-sent, header-sent, length-sent, passes-others, whole-sent}
+use Rattle.demands.specs.Runs.{Line, Run, endsPage, entryAt, isRow, kindOf, lastText, receivedAt, sentAt}
+use Rattle.demands.proofs.Told.{anothers-row, column-sent, header-sent, length-sent, whole-sent}
 
 -- ---- rows as they were sent
 
@@ -43,6 +44,18 @@ row-is magazine row s t = (
   eqb→eq (sentMagazine s) magazine (both-left (eqb (sentMagazine s) magazine) (eqb (sentRow s) row) t),
   eqb→eq (sentRow s) row (both-right (eqb (sentMagazine s) magazine) (eqb (sentRow s) row) t),
 )
+
+-- the header that ends a page is our row 0
+pub ends-is : (magazine : ℕ) (s : List ℕ) → T (endsPage magazine s) → (sentMagazine s ≡ magazine) × (sentRow s ≡ 0)
+unfolding endsPage
+ends-is magazine s t = row-is magazine 0 s t
+
+pub is-end : (magazine : ℕ) (s : List ℕ) → sentMagazine s ≡ magazine → sentRow s ≡ 0 → T (endsPage magazine s)
+unfolding endsPage
+is-end magazine s m e = is-row magazine 0 s m e
+
+pub header-ends : (magazine : ℕ) (s : List ℕ) → T (isRow magazine 0 s) → T (endsPage magazine s)
+header-ends magazine s t = let (ours, zeroth) = row-is magazine 0 s t in is-end magazine s ours zeroth
 
 second-fails : (a b : Bool) → (T b → ⊥) → (a && b) ≡ false
 second-fails true true h = absurd (h tt)
@@ -82,7 +95,7 @@ pub record Opening (run : Run) (k : ℕ) (receiver : Receiver) (i : ℕ) : Type 
   pub matched : T (matches (run .selection) (sentHeader (sentAt (run .lines) i)))
   pub kind : kindOf (entryAt run i) ≡ 2
   pub before : i < k
-  pub none-between : (n : ℕ) → i < n → n < k → T (isRow (run .selection .magazine) 0 (sentAt (run .lines) n)) → ⊥
+  pub none-between : (n : ℕ) → i < n → n < k → T (endsPage (run .selection .magazine) (sentAt (run .lines) n)) → ⊥
   pub numbers : receiver .header ≡ sentHeader (sentAt (run .lines) i)
   pub text : (c : ℕ) → headerColumn ≤ c → c < columns → CellIs (receiver .cells) 0 c (getD (sentText (sentAt (run .lines) i)) c 0)
   pub rows : (row : ℕ) → 1 ≤ row → row ≤ lastRow → RowIs (receiver .cells) row (lastText (run .selection .magazine) row (run .lines) i k)
@@ -107,7 +120,8 @@ one-further i k P below here n low h (no d) = below n low (omega arith)
 -- ---- one line more
 
 module _ (run : Run) (k : ℕ) (receiver : Receiver) (lent : List ℕ) (selects : receiver .selection ≡ run .selection) (sized : Sized (receiver .cells))
-    (held : Held run k receiver) (sent : T (sentByRules (sentAt (run .lines) k))) (damaged : T (damage throughout (sentAt (run .lines) k) (receivedAt (run .lines) k))) where
+    (d : ℕ) (mild : d ≤ throughout) (sent : T (sentByRules (sentAt (run .lines) k)))
+    (damaged : T (damage d (sentAt (run .lines) k) (receivedAt (run .lines) k))) where
   abbrev m : ℕ
   m = run .selection .magazine
 
@@ -123,87 +137,78 @@ module _ (run : Run) (k : ℕ) (receiver : Receiver) (lent : List ℕ) (selects 
   abbrev outcome : Outcome
   outcome = taken receiver packet lent
 
-  abbrev After : Receiver → Type 0
-  After later = (i : ℕ) × Opening run (suc k) later i
-
   same-magazine : receiver .selection .magazine ≡ m
   same-magazine = ap (λ (x : Selection). x .magazine) selects
 
   -- a byte's character in its cell is the one that was sent
   shown-sent : (high : sentRow s ≤ lastRow) (cells : Cells) (row c : ℕ) → firstColumn (sentRow s) ≤ c → c < columns
       → Shown (textOf packet .bytes) cells row c → CellIs cells row c (getD (sentText s) c 0)
-  shown-sent high cells row c low below shown = (column-sent throughout s r sent damaged high c low below (characterAt cells row c) (shown .0), shown .1)
+  shown-sent high cells row c low below shown = (column-sent d s r sent damaged high c low below (characterAt cells row c) (shown .0), shown .1)
 
   -- ---- the line opens a page
 
-  opened-here : kindOf (entryAt run k) ≡ 2 → Opens receiver packet lent outcome → Going (outcome .receiver) → After (outcome .receiver)
+  pub opened-here : kindOf (entryAt run k) ≡ 2 → Opens receiver packet lent outcome → Going (outcome .receiver)
+      → Opening run (suc k) (outcome .receiver) k
   opened-here kind opens going =
-      let (magazine-is, zeroth) = whole-sent s r sent damaged (receiver .selection .magazine) 0 (opens .ours) in
-      let numbers : opens .found ≡ sentHeader s = header-sent s r sent damaged zeroth (opens .found) (opens .read) in (
-        k,
-        record {
-          header = is-row m 0 s (magazine-is ∙ same-magazine) zeroth;
-          matched = subst (λ (x : Selection). T (matches x (sentHeader s))) selects (subst (λ (x : Header). T (matches (receiver .selection) x)) numbers (opens .matched));
-          kind = kind;
-          before = omega arith;
-          none-between = λ n low h. absurd (omega arith);
-          numbers = opening-header receiver packet lent outcome opens ∙ numbers;
-          text =
-              λ c low h.
-              shown-sent (omega arith) (outcome .receiver .cells) 0 c (omega (arith, ap firstColumn zeroth, header-first)) h
-              (opening-text receiver packet lent outcome opens sized (going .1) c low h);
-          rows =
-              λ row low high.
-              subst (RowIs (outcome .receiver .cells) row) (sym (none-yet m row (run .lines) k (suc k) (omega arith)))
-              (λ c h. opening-none-fresh receiver packet lent outcome opens row c low h);
-        },
-      )
+      let (magazine-is, zeroth) = whole-sent d mild s r sent damaged (receiver .selection .magazine) 0 (opens .ours) in
+      let numbers : opens .found ≡ sentHeader s = header-sent d mild s r sent damaged zeroth (opens .found) (opens .read) in
+      record {
+        header = is-row m 0 s (magazine-is ∙ same-magazine) zeroth;
+        matched = rw (sym selects, sym numbers, opens .matched) tt;
+        kind = kind;
+        before = omega arith;
+        none-between = λ n low h. absurd (omega arith);
+        numbers = opening-header receiver packet lent outcome opens ∙ numbers;
+        text =
+            λ c low h.
+            shown-sent (omega arith) (outcome .receiver .cells) 0 c (omega (arith, ap firstColumn zeroth, header-first)) h
+            (opening-text receiver packet lent outcome opens sized (going .1) c low h);
+        rows =
+            λ row low high.
+            subst (RowIs (outcome .receiver .cells) row) (sym (none-yet m row (run .lines) k (suc k) (omega arith)))
+            (λ c h. opening-none-fresh receiver packet lent outcome opens row c low h);
+      }
 
   -- ---- the line goes by, or is stored
 
-  module _ (was-going : Going receiver) where
-    abbrev i : ℕ
-    i = held was-going .0
-
-    abbrev was : Opening run k receiver i
-    was = held was-going .1
+  module _ (i : ℕ) (was : Opening run k receiver i) where
+    abbrev After : Receiver → Type 0
+    After later = Opening run (suc k) later i
 
     -- all but the cells
-    further : (later : Receiver) → later .header ≡ receiver .header → (T (isRow m 0 s) → ⊥)
+    further : (later : Receiver) → later .header ≡ receiver .header → (T (endsPage m s) → ⊥)
         → ((c : ℕ) → headerColumn ≤ c → c < columns → CellIs (later .cells) 0 c (getD (sentText (sentAt (run .lines) i)) c 0))
         → ((row : ℕ) → 1 ≤ row → row ≤ lastRow → RowIs (later .cells) row (lastText m row (run .lines) i (suc k)))
         → After later
-    further later same not-header text rows = (
-      i,
-      record {
-        header = was .header;
-        matched = was .matched;
-        kind = was .kind;
-        before = omega (arith, was .before);
-        none-between =
-            λ n low h.
-            one-further i k (λ (x : ℕ). T (isRow m 0 (sentAt (run .lines) x)) → ⊥) (was .none-between) not-header n low h (ℕ-discrete n k);
-        numbers = same ∙ was .numbers;
-        text = text;
-        rows = rows;
-      },
-    )
+    further later same not-header text rows =
+        record {
+          header = was .header;
+          matched = was .matched;
+          kind = was .kind;
+          before = omega (arith, was .before);
+          none-between =
+              λ n low h.
+              one-further i k (λ (x : ℕ). T (endsPage m (sentAt (run .lines) x)) → ⊥) (was .none-between) not-header n low h (ℕ-discrete n k);
+          numbers = same ∙ was .numbers;
+          text = text;
+          rows = rows;
+        }
 
     gone-by : Passed receiver packet lent outcome → After receiver
     gone-by by =
-        let other : (row : ℕ) → row ≤ lastRow → T (isRow m row s) → ⊥ =
-        λ row high t.
-        passes-others s r sent damaged (receiver .selection) (receiver .«open») (was-going .0) (by .passes) (row-is m row s t .0 ∙ sym same-magazine)
-        (omega (arith, row-is m row s t .1)) in
-        further receiver refl (other 0 (omega arith)) (was .text)
-        (λ row low high. subst (RowIs (receiver .cells) row) (sym (text-stays m row (run .lines) i k (other row high))) (was .rows row low high))
+        let none : (row : ℕ) → row ≤ lastRow → sentMagazine s ≡ m → sentRow s ≡ row → ⊥ =
+        λ row high our e. anothers-row d mild s r sent damaged (receiver .selection .magazine) (by .anothers) (our ∙ sym same-magazine) (omega (arith, e)) in
+        further receiver refl (λ t. none 0 (omega arith) (ends-is m s t .0) (ends-is m s t .1)) (was .text)
+        (λ row low high.
+        subst (RowIs (receiver .cells) row) (sym (text-stays m row (run .lines) i k (λ t. none row high (row-is m row s t .0) (row-is m row s t .1))))
+        (was .rows row low high))
 
     module _ (whole : WholeRow receiver packet lent outcome) where
       abbrev row-stored : ℕ
       row-stored = whole .stores .row
 
       sent-row : (sentMagazine s ≡ receiver .selection .magazine) × (sentRow s ≡ row-stored)
-      sent-row = whole-sent s r sent damaged (receiver .selection .magazine) row-stored (whole .stores .ours .from)
+      sent-row = whole-sent d mild s r sent damaged (receiver .selection .magazine) row-stored (whole .stores .ours .from)
 
       others-stay : (row : ℕ) → (row ≡ row-stored → ⊥) → (c : ℕ) → c < columns → Stays (receiver .cells) (outcome .receiver .cells) row c
       others-stay row differs c h = storing-others receiver packet lent outcome (whole .stores) row c differs h
@@ -228,20 +233,21 @@ module _ (run : Run) (k : ℕ) (receiver : Receiver) (lent : List ℕ) (selects 
       stored-here : After (outcome .receiver)
       stored-here =
           further (outcome .receiver) (storing-header receiver packet lent outcome (whole .stores))
-          (λ t. omega (arith, row-is m 0 s t .1, sent-row .1, whole .stores .ours .first))
+          (λ t. omega (arith, ends-is m s t .1, sent-row .1, whole .stores .ours .first))
           (λ c low h.
           cell-stays (receiver .cells) (outcome .receiver .cells) 0 c _
           (others-stay 0 (λ e. omega (arith, whole .stores .ours .first)) c h) (was .text c low h))
           (λ row low high. stored-row row low high (ℕ-discrete row row-stored))
 
-    went-by : Passed receiver packet lent outcome ⊎ WholeRow receiver packet lent outcome → After (outcome .receiver)
-    unfolding nothing
+    pub went-by : Passed receiver packet lent outcome ⊎ WholeRow receiver packet lent outcome → After (outcome .receiver)
+    unfolding unclosed
     went-by (inl by) = subst After (sym (ap (λ (o : Outcome). o .receiver) (by .gives))) (gone-by by)
     went-by (inr whole) = stored-here whole
 
   -- ---- and so after any line
 
-  pub held-after : kindOf (entryAt run k) ≡ outcome .kind → Held run (suc k) (outcome .receiver)
-  held-after kind going =
-      ⊎-elim (λ e. opened-here (kind ∙ e) (kind-2-opens receiver packet lent e) going) (λ on. went-by (on .0) (on .1))
-      (going-on receiver packet lent (received-packet throughout s r damaged) going)
+  pub held-after : Held run k receiver → kindOf (entryAt run k) ≡ outcome .kind → Held run (suc k) (outcome .receiver)
+  held-after held kind going =
+      ⊎-elim (λ e. (k, opened-here (kind ∙ e) (kind-2-opens receiver packet lent e) going))
+      (λ on. let (i, was) = held (on .0) in (i, went-by i was (on .1)))
+      (going-on receiver packet lent (received-packet d s r damaged) going)

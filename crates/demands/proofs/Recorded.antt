@@ -8,55 +8,74 @@ use native.Mathlib.Omega.{arith}
 use lib.ListN.{length, drop, length-drop}
 use lib.Seq.{drop-drop}
 use Rattle.packet.specs.Lines.{lineLength}
-use Rattle.receiver.specs.Entries.{Entered, lineEntered, made}
-use Rattle.receiver.specs.Recordings.{Playing, goesOn, played, playing, stoppedAt}
-use Rattle.receiver.proofs.Playing.{entry, turn}
-use Rattle.demands.specs.Recorded.{PlaysTheRun, Records}
-use Rattle.demands.specs.Runs.{Run, entering, entryAt, standingBefore}
+use Rattle.receiver.specs.Entries.{Entered, lineEntered}
+use Rattle.receiver.specs.Recordings.{Playing, ended, goesOn, played, playing, stoppedAt}
+use Rattle.receiver.proofs.Playing.{entry, turn, turn-ends}
+use Rattle.demands.specs.Recorded.{GoesOn, PlaysTheRun, PlaysToTheEnd, Records, playedFrom}
+use Rattle.demands.specs.Runs.{Run, beforeLine, entering, entryAt}
 
 module _ (run : Run) (recording : List ℕ) (of : Records run recording) where
+  -- what is left before line k
   abbrev restAt : ℕ → List ℕ
   restAt k = drop (k * lineLength) recording
 
-  -- what is still to be played before line k
-  abbrev still : ℕ → Playing
-  still k = playing (length recording - k) (standingBefore run k .receiver) (restAt k) (standingBefore run k .lent) k
+  rest-length : (k : ℕ) → length (restAt k) ≡ length (run .lines) * lineLength - k * lineLength
+  rest-length k = length-drop (k * lineLength) recording ∙ ap (λ (n : ℕ). n - k * lineLength) (of .size)
 
-  module _ (k : ℕ) (h : k < length (run .lines)) where
-    the-entry : entry (standingBefore run k .receiver) (restAt k) (standingBefore run k .lent) k ≡ entryAt run k
-    unfolding entryAt entering
-    the-entry = ap (λ (l : List ℕ). lineEntered (standingBefore run k .receiver) l (standingBefore run k .lent)) (of .holds k h)
+  module _ (i : ℕ) where
+    -- what is still to be played before line k, of which the lines from line i on are used
+    abbrev still : ℕ → ℕ → Playing
+    still k used = playing (length (restAt i) - used) (beforeLine run k .receiver) (restAt k) (beforeLine run k .lent) used
 
-    not-empty : length (restAt k) ≡ 0 → ⊥
-    not-empty e = let l : length recording - k * lineLength ≡ 0 = sym (length-drop (k * lineLength) recording) ∙ e in omega (arith, l, h, of .size)
+    module _ (k used : ℕ) (at : k ≡ i + used) (h : k < length (run .lines)) where
+      the-entry : entry (beforeLine run k .receiver) (restAt k) (beforeLine run k .lent) used ≡ entryAt run k
+      unfolding entryAt entering
+      the-entry = ap (λ (l : List ℕ). lineEntered (beforeLine run k .receiver) l (beforeLine run k .lent)) (of .holds k h)
 
-    one-more : length recording - k ≡ suc (length recording - suc k)
-    one-more = omega (arith, h, of .size)
+      not-empty : length (restAt k) ≡ 0 → ⊥
+      not-empty e = omega (arith, e, rest-length k, h)
 
-    the-rest : drop lineLength (restAt k) ≡ restAt (suc k)
-    the-rest =
-        let next : k * lineLength + lineLength ≡ suc k * lineLength = omega arith in
-        drop-drop lineLength (k * lineLength) recording ∙ ap (λ (n : ℕ). drop n recording) next
+      one-more : length (restAt i) - used ≡ suc (length (restAt i) - suc used)
+      one-more = omega (arith, rest-length i, at, h)
 
-    -- what a turn leads to, by what its line gave
-    abbrev turned : List ℕ → ℕ → Bool → Entered → Playing
-    turned rest used on e = cond on (playing (length recording - suc k) (e .receiver) rest (e .lent) used) (stoppedAt e used)
+      the-rest : drop lineLength (restAt k) ≡ restAt (suc k)
+      the-rest =
+          let next : k * lineLength + lineLength ≡ suc k * lineLength = omega arith in
+          drop-drop lineLength (k * lineLength) recording ∙ ap (λ (n : ℕ). drop n recording) next
 
-    one-turn : (on : Bool) → goesOn (entryAt run k .answer) ≡ on → still k ≡ cond on (still (suc k)) (stoppedAt (entryAt run k) (suc k))
-    unfolding standingBefore entryAt
-    one-turn on g =
-        let next : k + 1 ≡ suc k = omega arith in
-        ap (λ (n : ℕ). playing n (standingBefore run k .receiver) (restAt k) (standingBefore run k .lent) k) one-more
-        ∙ (turn (standingBefore run k .receiver) (restAt k) (standingBefore run k .lent) k (length recording - suc k) not-empty on
-        (ap (λ (e : Entered). goesOn (e .answer)) the-entry ∙ g)
-        ∙ (ap (λ (e : Entered). turned (drop lineLength (restAt k)) (k + 1) on e) the-entry
-        ∙ (ap (λ (rest : List ℕ). turned rest (k + 1) on (entryAt run k)) the-rest ∙ ap (λ (used : ℕ). turned (restAt (suc k)) used on (entryAt run k)) next)))
+      -- what a turn leads to, by what its line gave
+      abbrev turned : List ℕ → ℕ → Bool → Entered → Playing
+      turned rest count on e = cond on (playing (length (restAt i) - suc used) (e .receiver) rest (e .lent) count) (stoppedAt e count)
 
-  stands : (k : ℕ) → k ≤ length (run .lines) → ((i : ℕ) → i < k → goesOn (entryAt run i .answer) ≡ true)
-      → played (made (run .selection)) recording (run .lent) ≡ still k
-  unfolding played standingBefore
-  stands zero h on = ap (λ (n : ℕ). playing n (made (run .selection)) recording (run .lent) 0) (sym (sub-zero (length recording)))
-  stands (suc k) h on = stands k (omega (arith, h)) (λ i below. on i (omega (arith, below))) ∙ one-turn k (omega (arith, h)) true (on k (omega arith))
+      one-turn : (on : Bool) → goesOn (entryAt run k .answer) ≡ on → still k used ≡ cond on (still (suc k) (suc used)) (stoppedAt (entryAt run k) (suc used))
+      unfolding beforeLine entryAt
+      one-turn on g =
+          let next : used + 1 ≡ suc used = omega arith in
+          ap (λ (n : ℕ). playing n (beforeLine run k .receiver) (restAt k) (beforeLine run k .lent) used) one-more
+          ∙ (turn (beforeLine run k .receiver) (restAt k) (beforeLine run k .lent) used (length (restAt i) - suc used) not-empty on
+          (ap (λ (e : Entered). goesOn (e .answer)) the-entry ∙ g)
+          ∙ (ap (λ (e : Entered). turned (drop lineLength (restAt k)) (used + 1) on e) the-entry
+          ∙ (ap (λ (rest : List ℕ). turned rest (used + 1) on (entryAt run k)) the-rest
+          ∙ ap (λ (count : ℕ). turned (restAt (suc k)) count on (entryAt run k)) next)))
+
+    -- lines that go on lead from line i to the line after them
+    stands : (n : ℕ) → i + n ≤ length (run .lines) → GoesOn run i n → playedFrom run recording i ≡ still (i + n) n
+    unfolding played
+    stands zero h on =
+        let first : i ≡ i + 0 = omega arith in
+        ap (λ (n : ℕ). playing n (beforeLine run i .receiver) (restAt i) (beforeLine run i .lent) 0) (sym (sub-zero (length (restAt i))))
+        ∙ ap (λ (k : ℕ). still k 0) first
+    stands (suc n) h on =
+        let next : suc (i + n) ≡ i + suc n = omega arith in
+        stands n (omega (arith, h)) (λ k below. on k (omega (arith, below)))
+        ∙ (one-turn (i + n) n refl (omega (arith, h)) true (on n (omega arith)) ∙ ap (λ (k : ℕ). still k (suc n)) next)
 
 pub plays-the-run : PlaysTheRun
-plays-the-run run recording of j h on stop = stands run recording of j (omega (arith, h)) on ∙ one-turn run recording of j h false stop
+plays-the-run run recording of i n h on stop =
+    stands run recording of i n (omega (arith, h)) on ∙ one-turn run recording of i (i + n) n refl h false stop
+
+pub plays-to-the-end : PlaysToTheEnd
+plays-to-the-end run recording of i n h on =
+    stands run recording of i n (omega (arith, h)) on
+    ∙ turn-ends (beforeLine run (i + n) .receiver) (restAt run recording of (i + n)) (beforeLine run (i + n) .lent) n (length (restAt run recording of i) - n)
+    (rest-length run recording of (i + n) ∙ omega (arith, h))

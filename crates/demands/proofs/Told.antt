@@ -4,7 +4,7 @@ use mathlib.Core.Logic.{inl, inr, ⊎-elim}
 use mathlib.Core.Bool.{Bool, true, false}
 use mathlib.Core.List.{List}
 use mathlib.Core.Option.{Option, none, some}
-use Prim.Native.Nat.{ℕ, _+_, _≤_, _<_}
+use Prim.Native.Nat.{ℕ, _+_, _*_, _≤_, _<_}
 use native.Mathlib.Decide.{ℕ-discrete}
 use native.Mathlib.Omega.{arith}
 use borrow.Author.Tests.{eq-eqb}
@@ -13,11 +13,12 @@ use lib.ListN.{length, getD, length-map}
 use lib.Seq.{getD-drop}
 use Rattle.coding.specs.Characters.{character}
 use Rattle.coding.specs.Hamming.{message}
-use Rattle.packet.specs.Addresses.{addressOf, lastRow, rowOf, rowWeight1, rowWeights2to16, shown}
+use Rattle.packet.specs.Addresses.{addressOf, rowOf, rowWeight1, shown}
 use Rattle.packet.specs.Headers.{headerOf}
-use Rattle.packet.specs.Lines.{packetByte, packetBytes}
+use Rattle.packet.specs.Lines.{packetByte}
 use Rattle.packet.specs.Sent.{damage, linePacket, sentByRules, sentFirst, sentHeader, sentMagazine, sentRow, sentSecond, sentText}
-use Rattle.packet.specs.Texts.{columns, textOf}
+use Rattle.grid.specs.Grid.{columns, lastRow}
+use Rattle.packet.specs.Texts.{columnBytes, textOf}
 use Rattle.packet.specs.declared.Address.{Address}
 use Rattle.packet.specs.declared.Address.the-variants.{Whole, First, Second, Unread, WrongLength}
 use Rattle.packet.specs.declared.Header.{Header}
@@ -29,12 +30,11 @@ use Rattle.packet.proofs.Whole.{whole-text}
 use Rattle.page.specs.Records.{recordLength}
 use Rattle.receiver.specs.Cells.{firstColumn, oneMissing, rowFound}
 use Rattle.receiver.specs.Entries.{entered, lawful, lineEntered}
-use Rattle.receiver.specs.Lines.{taken}
+use Rattle.receiver.specs.Effects.{taken}
 use Rattle.receiver.specs.declared.Receiver.{Receiver}
-use Rattle.receiver.specs.declared.Selection.{Selection}
 use Rattle.receiver.proofs.Entering.{line-is-taken}
 use Rattle.receiver.proofs.Rows.{found-at, length-found}
-use Rattle.receiver.proofs.Shows.{Passes, harmless-second, late-row, no-packet, other-first, other-magazine, unopened-row}
+use Rattle.receiver.proofs.Causes.{Anothers, harmless-second, late-row, no-packet, other-first, other-magazine}
 use Rattle.receiver.proofs.Undoubted.{each-found, length-text}
 use Rattle.demands.specs.Demands.{throughout}
 use Rattle.demands.specs.Runs.{characterBytes}
@@ -52,13 +52,13 @@ line-taken d s r sent damaged receiver is lent long =
 abbrev pub Told : List ℕ → Address → Type 0
 Told s (Whole magazine row) = (sentMagazine s ≡ magazine) × (sentRow s ≡ row)
 Told s (First magazine weight1) = sentMagazine s ≡ magazine
-Told s (Second weights) = weights ≤ sentRow s
+Told s (Second second) = 2 * second ≤ sentRow s
 Told s Unread = Unit {0}
 Told s WrongLength = ⊥
 
-second-told : (s : List ℕ) → rowWeights2to16 (sentSecond s) ≤ sentRow s
+second-told : (s : List ℕ) → 2 * sentSecond s ≤ sentRow s
 unfolding sentRow rowOf
-second-told s = most (rowWeight1 (sentFirst s)) (rowWeights2to16 (sentSecond s))
+second-told s = most (rowWeight1 (sentFirst s)) (2 * sentSecond s)
   where
     most : (a b : ℕ) → b ≤ a + b
     most a b = omega arith
@@ -70,46 +70,44 @@ shown-told s one two (inl p) (inr q) = rw (p, q) refl
 shown-told s one two (inr p) (inl q) = rw (p, q) (second-told s)
 shown-told s one two (inr p) (inr q) = rw (p, q) tt
 
-module _ (s r : List ℕ) (sent : T (sentByRules s)) (damaged : T (damage throughout s r)) where
+module _ (d : ℕ) (mild : d ≤ throughout) (s r : List ℕ) (sent : T (sentByRules s)) (damaged : T (damage d s r)) where
   told : Told s (addressOf (linePacket r))
   told =
-      rw (address-shown throughout s r sent damaged)
+      rw (address-shown d s r sent damaged)
       (shown-told s (message (packetByte (linePacket r) 1)) (message (packetByte (linePacket r) 2))
-      (first-two throughout s r sent damaged (omega arith))
-      (second-two throughout s r sent damaged (omega arith)))
+      (first-two d s r sent damaged mild)
+      (second-two d s r sent damaged mild))
 
   -- an address that is read whole is the one that was sent
   pub whole-sent : (magazine row : ℕ) → addressOf (linePacket r) ≡ Whole magazine row → (sentMagazine s ≡ magazine) × (sentRow s ≡ row)
   whole-sent magazine row e = subst (Told s) e told
 
-  -- and a line that an open page passes over is none of our rows 0 to 23
-  pub passes-others : (selection : Selection) (isOpen : Bool) → isOpen ≡ true → Passes selection isOpen (addressOf (linePacket r))
-      → sentMagazine s ≡ selection .magazine → sentRow s ≤ lastRow → ⊥
-  passes-others selection isOpen o (other-magazine magazine row e differs) ours high = differs (sym (subst (Told s) e told .0) ∙ ours)
-  passes-others selection isOpen o (late-row magazine row e late) ours high = omega (arith, subst (Told s) e told .1)
-  passes-others selection isOpen o (unopened-row magazine row e first shut) ours high = let z : _≡_ {A = ℕ} 0 1 = cc in omega arith
-  passes-others selection isOpen o (other-first magazine weight1 e differs) ours high = differs (sym (subst (Told s) e told) ∙ ours)
-  passes-others selection isOpen o (harmless-second weights e late) ours high = omega (arith, subst (Told s) e told)
-  passes-others selection isOpen o (no-packet e) ours high = subst (Told s) e told
+  -- and a line of another's is none of our rows 0 to 23
+  pub anothers-row : (ours : ℕ) → Anothers ours (addressOf (linePacket r)) → sentMagazine s ≡ ours → sentRow s ≤ lastRow → ⊥
+  anothers-row ours (other-magazine magazine row e differs) our high = differs (sym (subst (Told s) e told .0) ∙ our)
+  anothers-row ours (late-row magazine row e late) our high = omega (arith, subst (Told s) e told .1)
+  anothers-row ours (other-first magazine weight1 e differs) our high = differs (sym (subst (Told s) e told) ∙ our)
+  anothers-row ours (harmless-second second e late) our high = omega (arith, subst (Told s) e told)
+  anothers-row ours (no-packet e) our high = subst (Told s) e told
 
   -- ---- the header
 
   pub header-sent : sentRow s ≡ 0 → (found : Header) → headerOf (linePacket r) ≡ Good found → found ≡ sentHeader s
   header-sent zeroth found e =
-      ⊎-elim (λ p. cc) (λ p. absurd (let z : _≡_ {A = ℕ} 0 1 = cc in omega arith)) (header-two throughout s r sent damaged zeroth (omega arith))
+      ⊎-elim (λ p. cc) (λ p. absurd (let z : _≡_ {A = ℕ} 0 1 = cc in omega arith)) (header-two d s r sent damaged zeroth mild)
 
 -- ---- the characters
 
 pub length-sent : (s : List ℕ) → T (sentByRules s) → length (sentText s) ≡ columns
 unfolding sentText
 length-sent s sent =
-    length-map (packetBytes (linePacket s) 3 columns) _ ∙ length-bytes (linePacket s) 3 columns (omega (arith, sent-packet s sent))
+    length-map (columnBytes (linePacket s)) _ ∙ length-bytes (linePacket s) 3 columns (omega (arith, sent-packet s sent))
 
 module _ (d : ℕ) (s r : List ℕ) (sent : T (sentByRules s)) (damaged : T (damage d s r)) (high : sentRow s ≤ lastRow) where
   abbrev read : List ℕ
   read = textOf (linePacket r) .bytes
 
-  read-is : read ≡ packetBytes (linePacket r) 3 columns
+  read-is : read ≡ columnBytes (linePacket r)
   read-is = ap (λ (t : Text). t .bytes) (whole-text (linePacket r) (received-packet d s r damaged))
 
   -- a column that carries a character
@@ -130,7 +128,7 @@ module _ (d : ℕ) (s r : List ℕ) (sent : T (sentByRules s)) (damaged : T (dam
         (column-two d s r sent damaged c below carries)
 
     -- and it is found where its byte is right
-    column-found : getD (packetBytes (linePacket r) 3 columns) c 0 ≡ getD (packetBytes (linePacket s) 3 columns) c 0
+    column-found : getD (columnBytes (linePacket r)) c 0 ≡ getD (columnBytes (linePacket s)) c 0
         → character (getD read c 0) ≡ some (getD (sentText s) c 0)
     column-found e = rw read-is (column-kept d s r sent damaged c below carries e)
 
@@ -143,9 +141,9 @@ module _ (d : ℕ) (s r : List ℕ) (sent : T (sentByRules s)) (damaged : T (dam
       let first : ℕ = firstColumn (sentRow s) in
       let below : first + k < columns = omega (arith, length-found (sentRow s) read (length-text (linePacket r))) in
       let low : first ≤ first + k = omega arith in
-      let same : getD (packetBytes (linePacket r) 3 columns) (first + k) 0 ≡ getD (packetBytes (linePacket s) 3 columns) (first + k) 0 =
-      sym (getD-drop first (packetBytes (linePacket r) 3 columns) k 0)
-      ∙ (ap (λ (l : List ℕ). getD l k 0) e ∙ getD-drop first (packetBytes (linePacket s) 3 columns) k 0) in
+      let same : getD (columnBytes (linePacket r)) (first + k) 0 ≡ getD (columnBytes (linePacket s)) (first + k) 0 =
+      sym (getD-drop first (columnBytes (linePacket r)) k 0)
+      ∙ (ap (λ (l : List ℕ). getD l k 0) e ∙ getD-drop first (columnBytes (linePacket s)) k 0) in
       let here = found-at (sentRow s) read (length-text (linePacket r)) (first + k) low below in
       record {
         code = getD (sentText s) (first + k) 0;

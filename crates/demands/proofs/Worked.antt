@@ -6,14 +6,14 @@ use Prim.Native.Nat.{ℕ, zero, suc, _≤_, _<_}
 use native.Mathlib.Omega.{arith}
 use lib.Dec.{T, lit<, lit≤}
 use lib.ListN.{getD, replicate}
+use Rattle.page.specs.Lawful.{fresh}
 use Rattle.page.specs.Reading.{pageRead}
 use Rattle.page.specs.declared.Cells.{Cells}
-use Rattle.receiver.specs.Cells.{fresh}
-use Rattle.packet.specs.Addresses.{lastRow}
+use Rattle.grid.specs.Grid.{lastRow}
 use Rattle.packet.specs.Sent.{sentHeader}
 use Rattle.receiver.specs.Selections.{inRange, matches}
 use Rattle.demands.specs.Demands.{ClosesClean, ExactlyOne, Fed, Follows, Light, Passes, Received, TextKept, lightly, recordAfter}
-use Rattle.demands.specs.Runs.{Run, characterBytes, closingOf, entryAt, isRow, lastText, lineAt, lineWithin, rowPart, sentAt, within}
+use Rattle.demands.specs.Runs.{Run, characterBytes, closingOf, endsPage, entryAt, isRow, lastText, lineAt, lineWithin, rowPart, sentAt, within}
 use Rattle.demands.proofs.Closings.{proof-a}
 use Rattle.demands.proofs.Passing.{proof-c}
 use Rattle.demands.specs.Worked.{lostHeader, threeBits, twoBits, workedRun}
@@ -34,10 +34,10 @@ worked-received = proof-a workedRun worked-fed 2 worked-closes
 
 -- and it meets what C asks
 pub worked-follows : Follows workedRun 0 2
-unfolding workedRun isRow lineAt
+unfolding workedRun endsPage isRow lineAt
 worked-follows = record { header = tt; next = tt; before = lit< tt; none-between = between }
   where
-    between : (k : ℕ) → 0 < k → k < 2 → ¬ T (isRow 1 0 (sentAt (workedRun .lines) k))
+    between : (k : ℕ) → 0 < k → k < 2 → ¬ T (endsPage 1 (sentAt (workedRun .lines) k))
     between zero low high = absurd (omega arith)
     between (suc zero) low high = λ t. t
     between (suc (suc k)) low high = absurd (omega arith)

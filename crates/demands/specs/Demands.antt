@@ -1,27 +1,28 @@
--- Document 01, "What every promise says", demand 3, in three statements: A, what a page that closes clean holds; B, two equal records come from the
--- same page; C, a page does close clean. Each is a type, and its proof stands in proofs/.
+-- Demand 3: clean means as sent. Within the stated damage, a page closed as clean holds what was sent between its header and its closing and nothing
+-- else (A); equal clean records mean equal sendings (B); and with little damage the page does close clean (C).
+--
+-- Each of the three is a type, and its proof stands in proofs/. The runs are in Runs.antt; Chains.antt and Recorded.antt tie them to the entries.
 use mathlib.Core.Path.{_≡_}
 use mathlib.Core.Bool.{true, not}
 use mathlib.Core.List.{List}
 use mathlib.Core.Option.{Option, none, some}
-use Prim.Native.Nat.{ℕ, _≤_, _<_}
-use lib.Dec.{T, eqb}
+use Prim.Native.Nat.{ℕ, _-_, _≤_, _<_}
+use lib.Dec.{T}
 use lib.ListN.{length, take, drop, replicate}
 use Rattle.laws.specs.Every.{every}
-use Rattle.packet.specs.Addresses.{lastRow}
+use Rattle.grid.specs.Grid.{columns, lastRow}
 use Rattle.packet.specs.Sent.{sentMagazine, sentRow, sentHeader, sentText}
-use Rattle.packet.specs.Texts.{columns, headerColumn}
-use Rattle.page.specs.Lawful.{never}
+use Rattle.packet.specs.Texts.{headerColumn}
+use Rattle.page.specs.Lawful.{fresh, isFresh, never}
 use Rattle.page.specs.Reading.{pageRead, readAnswer}
 use Rattle.page.specs.Records.{recordLength}
 use Rattle.page.specs.declared.Cells.{Cells}
 use Rattle.page.specs.declared.Page.{Page}
 use Rattle.page.specs.declared.ReadAnswer.the-variants.{Read}
-use Rattle.receiver.specs.Cells.{fresh}
 use Rattle.receiver.specs.Entries.{closingNumber}
 use Rattle.receiver.specs.Selections.{inRange, matches}
 use Rattle.receiver.specs.declared.Closing.the-variants.{Clean}
-use Rattle.demands.specs.Runs.{Line, Run, characterBytes, closingOf, countOf, entryAt, isRow, kindOf, lastText, lineWithin, lineAt, rowPart, sentAt, within}
+use Rattle.demands.specs.Runs.{Line, Run, characterBytes, closingOf, countOf, endsPage, entryAt, isRow, kindOf, lastText, lineWithin, lineAt, rowPart, sentAt, within}
 
 -- ---- the runs
 
@@ -48,19 +49,19 @@ pub record ClosesClean (run : Run) (j : ℕ) : Type 0 where
   pub line : j < length (run .lines)
   pub word : closingOf (entryAt run j) ≡ closingNumber Clean
 
--- line i is a row 0 of the selected magazine, and line j is the first one sent after it
+-- line i is a row 0 of the selected magazine, and line j is the first one sent after it that ends its page
 pub record Follows (run : Run) (i j : ℕ) : Type 0 where
   pub header : T (isRow (run .selection .magazine) 0 (sentAt (run .lines) i))
-  pub next : T (isRow (run .selection .magazine) 0 (sentAt (run .lines) j))
+  pub next : T (endsPage (run .selection .magazine) (sentAt (run .lines) j))
   pub before : i < j
-  pub none-between : (k : ℕ) → i < k → k < j → ¬ T (isRow (run .selection .magazine) 0 (sentAt (run .lines) k))
+  pub none-between : (k : ℕ) → i < k → k < j → ¬ T (endsPage (run .selection .magazine) (sentAt (run .lines) k))
 
 -- ---- A
 
 -- a row: where the magazine sent it, its cells are the last text, all fresh; where not, no cell of it is fresh
 abbrev pub RowHolds : Cells → ℕ → Option (List ℕ) → Type 0
 RowHolds cells row (some text) = (rowPart row (cells .characters) ≡ text) × (rowPart row (cells .marks) ≡ replicate columns fresh)
-RowHolds cells row none = T (every (λ (mark : ℕ). not (eqb mark fresh)) (rowPart row (cells .marks)))
+RowHolds cells row none = T (every (λ (mark : ℕ). not (isFresh mark)) (rowPart row (cells .marks)))
 
 -- the page is what was sent from line i on and before line j
 pub record Holds (run : Run) (i j : ℕ) (page : Page) : Type 0 where
@@ -72,7 +73,7 @@ pub record Holds (run : Run) (i j : ℕ) (page : Page) : Type 0 where
   pub header-never : take headerColumn (rowPart 0 (page .cells .marks)) ≡ replicate headerColumn never
   pub rows : (row : ℕ) → 1 ≤ row → row ≤ lastRow → RowHolds (page .cells) row (lastText (run .selection .magazine) row (run .lines) i j)
 
--- the first 1,085 bytes of the lent record as it stands after line j
+-- the bytes of a record at the start of what is lent, as they stand after line j
 abbrev pub recordAfter : Run → ℕ → List ℕ
 recordAfter run j = take recordLength (entryAt run j .lent)
 
@@ -88,7 +89,7 @@ pub record Received (run : Run) (j i : ℕ) : Type 0 where
 abbrev pub ExactlyOne : (ℕ → Type 0) → Type 0
 ExactlyOne P = (i : ℕ) × P i × ((k : ℕ) → P k → k ≡ i)
 
--- for every lawful selection, every lent record of at least 1,085 bytes and every sequence of lines with at most two wrong bits in each Hamming byte and
+-- for every lawful selection, every lent record that is long enough and every sequence of lines with at most two wrong bits in each Hamming byte and
 -- none or an odd number in each character byte: at each line j that closes clean there is exactly one line i that opened the page, and the record is
 -- the page that was sent from there
 abbrev pub A : Type 0
@@ -105,8 +106,8 @@ pub record SameSent (run other : Run) (i j k l : ℕ) : Type 0 where
   pub rows : (row : ℕ) → 1 ≤ row → row ≤ lastRow
       → lastText (run .selection .magazine) row (run .lines) i j ≡ lastText (other .selection .magazine) row (other .lines) k l
 
--- for any two such runs with clean closings after which the first 1,085 bytes are equal: i and k are the headers of the two pages, which A shows to be
--- there and to be the only ones
+-- for any two such runs with clean closings after which the records are equal: i and k are the headers of the two pages, which A shows to be there and to
+-- be the only ones
 abbrev pub B : Type 0
 B =
     (run other : Run) → Fed run → Fed other → (i j k l : ℕ) → ClosesClean run j → ClosesClean other l
@@ -125,13 +126,15 @@ pub record Light (run : Run) (i j : ℕ) : Type 0 where
   pub rows-kept : (row k : ℕ) → 1 ≤ row → row ≤ lastRow → i < k → k < j → T (isRow (run .selection .magazine) row (sentAt (run .lines) k))
       → TextKept (lineAt (run .lines) k)
 
--- the page opens with all its 32 characters, and closes clean
+-- the page opens with all its header's characters and closes clean, and the record reads back to what was sent from line i on and before line j
 pub record Passes (run : Run) (i j : ℕ) : Type 0 where
   pub kind : kindOf (entryAt run i) ≡ 2
-  pub count : countOf (entryAt run i) ≡ 32
+  pub count : countOf (entryAt run i) ≡ columns - headerColumn
   pub word : closingOf (entryAt run j) ≡ closingNumber Clean
+  pub reads : readAnswer (recordAfter run j) ≡ Read
+  pub holds : Holds run i j (pageRead (recordAfter run j))
 
--- where line i matches the selection and line j is the next row 0 of its magazine. What came before line i is free, within the damage or not, and line
+-- where line i matches the selection and line j is the next that ends its page. What came before line i is free, within the damage or not, and line
 -- j's own text may be wrong
 abbrev pub C : Type 0
 C =

@@ -1,3 +1,4 @@
+pub mod Chains
 pub mod Demands
 pub mod Marked
 pub mod Recorded

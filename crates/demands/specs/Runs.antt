@@ -7,9 +7,9 @@ use Prim.Native.Nat.{ℕ, zero, suc, _*_}
 use lib.Dec.{eqb, ltb}
 use lib.ListN.{getD, take, drop}
 use Rattle.laws.specs.Every.{every}
-use Rattle.packet.specs.Lines.{packetBytes}
+use Rattle.grid.specs.Grid.{columns}
 use Rattle.packet.specs.Sent.{linePacket, sentMagazine, sentRow, sentText, sentByRules, damage}
-use Rattle.packet.specs.Texts.{columns}
+use Rattle.packet.specs.Texts.{columnBytes}
 use Rattle.receiver.specs.Cells.{firstColumn}
 use Rattle.receiver.specs.Entries.{Entered, lineEntered, made}
 use Rattle.receiver.specs.declared.Receiver.{Receiver}
@@ -47,6 +47,11 @@ unfoldable pub isRow : ℕ → ℕ → List ℕ → Bool
 unfolding sentMagazine sentRow
 isRow magazine row line = eqb (sentMagazine line) magazine && eqb (sentRow line) row
 
+-- the header that ends a page of a magazine: a row 0 of it
+unfoldable pub endsPage : ℕ → List ℕ → Bool
+unfolding isRow
+endsPage magazine line = isRow magazine 0 line
+
 -- the last text of a row that a magazine sent after line i and before line j, and none where it sent none
 unfoldable pub lastText : ℕ → ℕ → List Line → ℕ → ℕ → Option (List ℕ)
 unfolding isRow sentText lineAt
@@ -56,8 +61,8 @@ lastText magazine row lines i (suc k) =
 
 -- the bytes of a line that carry its characters, in a row 0 from column 8 on
 unfoldable pub characterBytes : ℕ → List ℕ → List ℕ
-unfolding firstColumn packetBytes linePacket
-characterBytes row line = drop (firstColumn row) (packetBytes (linePacket line) 3 columns)
+unfolding firstColumn linePacket
+characterBytes row line = drop (firstColumn row) (columnBytes (linePacket line))
 
 -- ---- the receiver
 
@@ -68,27 +73,27 @@ pub record Run : Type 0 where
   pub lines : List Line
 
 -- the receiver and the lent record between two lines
-pub record Standing : Type 0 where
+pub record Between : Type 0 where
   pub receiver : Receiver
   pub lent : List ℕ
 
 -- a received line is entered
-unfoldable pub entering : Standing → List ℕ → Entered
+unfoldable pub entering : Between → List ℕ → Entered
 unfolding lineEntered
-entering standing line = lineEntered (standing .receiver) line (standing .lent)
+entering between line = lineEntered (between .receiver) line (between .lent)
 
 -- what stands before line k: at first the new receiver, and then what each line leaves to the next
-unfoldable pub standingBefore : Run → ℕ → Standing
+unfoldable pub beforeLine : Run → ℕ → Between
 unfolding made entering lineAt
-standingBefore run zero = record { receiver = made (run .selection); lent = run .lent }
-standingBefore run (suc k) =
-    let entry : Entered = entering (standingBefore run k) (receivedAt (run .lines) k) in
+beforeLine run zero = record { receiver = made (run .selection); lent = run .lent }
+beforeLine run (suc k) =
+    let entry : Entered = entering (beforeLine run k) (receivedAt (run .lines) k) in
     record { receiver = entry .receiver; lent = entry .lent }
 
 -- what line k gives: its answer, the receiver and the lent record as they stand after it
 unfoldable pub entryAt : Run → ℕ → Entered
-unfolding entering standingBefore lineAt
-entryAt run k = entering (standingBefore run k) (receivedAt (run .lines) k)
+unfolding entering beforeLine lineAt
+entryAt run k = entering (beforeLine run k) (receivedAt (run .lines) k)
 
 -- the kind, the count and the closing word of an answer
 unfoldable pub kindOf : Entered → ℕ

@@ -1,11 +1,11 @@
 -- Control codes, below 20, and printed ones, from 20 up: what of the rule each of them reaches. A printed code changes nothing of the state but the held
 -- mosaic and the code before.
 use mathlib.Core.Path.{_≡_, refl, sym, _∙_, ap}
-use mathlib.Core.Bool.{Bool, true, false, not, cond, _&&_, _||_, and-false, false≢true}
+use mathlib.Core.Bool.{Bool, true, false, not, cond, _&&_, and-false, false≢true}
 use Prim.Native.Nat.{ℕ, _<_, _≤_}
 use native.Mathlib.Omega.{arith}
 use borrow.Author.Tests.{lt-ltb, le-ltb, lt-leb, ne-eqb}
-use lib.Dec.{T, eqb, leb, ltb}
+use lib.Dec.{T, eqb}
 use Rattle.laws.specs.Below.{allBelow}
 use Rattle.laws.proofs.Below.{at}
 use Rattle.display.specs.Display.{ownCell, shownControl, shown, givesPattern, mosaic, cell, lettersColour, mosaicsColour, afterCell, cellAt, next}

@@ -1,12 +1,12 @@
 -- "Held goes blank when letters/mosaics or size really changes", said of the whole step as the paper says it: at a control code held goes blank just
 -- where the state after it differs in these from the state before it, and else it stays. (`printed-next` of `Codes` has the other codes.)
-use mathlib.Core.Path.{_≡_, refl, _∙_}
+use mathlib.Core.Path.{_≡_, refl}
 use mathlib.Core.Bool.{Bool, true, false, not, cond, _||_, Bool·beq}
 use Prim.Native.Nat.{ℕ, _<_}
 use lib.Dec.{T}
 use Rattle.laws.specs.Below.{allBelow}
 use Rattle.laws.proofs.Below.{at}
-use Rattle.display.specs.Display.{blank, start, ownCell, endsDouble, changesAfter, afterCell, next}
+use Rattle.display.specs.Display.{blank, ownCell, endsDouble, changesAfter, next}
 use Rattle.display.specs.declared.Symbol.{Symbol}
 use Rattle.display.specs.declared.state.RowState.{RowState}
 use Rattle.display.proofs.Codes.{control-gives}

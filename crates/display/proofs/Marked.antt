@@ -2,7 +2,7 @@
 -- starts with these codes.
 use mathlib.Core.Path.{_≡_, refl}
 use mathlib.Core.Bool.{Bool, true, false}
-use mathlib.Core.List.{List, [], _∷_, map}
+use mathlib.Core.List.{[], _∷_, map}
 use Prim.Native.Nat.{ℕ}
 use Rattle.display.specs.Display.{space, pattern, start, along}
 use Rattle.display.specs.declared.Cell.{Cell}

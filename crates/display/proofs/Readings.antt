@@ -1,6 +1,6 @@
 -- Worked rows where document 01 could be read in more than one way, computed: each shows which reading the definitions have.
 use mathlib.Core.Path.{_≡_, refl}
-use mathlib.Core.Bool.{Bool, true, false}
+use mathlib.Core.Bool.{true, false}
 use mathlib.Core.List.{List, [], _∷_, map}
 use Prim.Native.Nat.{ℕ}
 use Rattle.display.specs.Display.{space, blank, start, along}

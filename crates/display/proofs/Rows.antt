@@ -9,7 +9,8 @@ use borrow.Author.Tests.{eq-eqb, le-leb}
 use lib.ListN.{length, getD, take, drop, replicate}
 use lib.Seq.{take-all}
 use Rattle.laws.specs.Paper.{accepted, refusedBy}
-use Rattle.display.specs.Display.{space, white, black, start, cellAt, next, along, columns, allCodes, isRow, zeroCells, displayed, Displayed, rowAnswerPaper}
+use Rattle.grid.specs.Grid.{columns}
+use Rattle.display.specs.Display.{space, white, black, start, cellAt, next, along, allCodes, isRow, zeroCells, displayed, rowAnswerPaper}
 use Rattle.display.specs.Private.{answerIf}
 use Rattle.display.specs.declared.Cell.{Cell}
 use Rattle.display.specs.declared.state.RowState.{RowState}

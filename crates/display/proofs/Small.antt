@@ -6,31 +6,10 @@ use Prim.Native.Nat.{ℕ, zero, suc, _≤_, _<_, _%_}
 use native.Mathlib.Omega.{arith}
 use borrow.Author.Tests.{leb-true}
 use lib.Dec.{eqb, leb, ltb, lit<, lit≤}
-use lib.ListN.{length, replicate}
-use Rattle.display.specs.Display.{
-  blank,
-  start,
-  endsDouble,
-  ownCell,
-  pattern,
-  givesPattern,
-  mosaic,
-  shownControl,
-  shown,
-  cell,
-  colour,
-  changesAfter,
-  afterCell,
-  cellAt,
-  next,
-  along,
-  columns,
-  allCodes,
-  isRow,
-  zeroCell,
-  zeroCells,
-  displayed,
-}
+use lib.ListN.{replicate}
+use Rattle.grid.specs.Grid.{columns}
+use Rattle.display.specs.Display.{blank, start, endsDouble, ownCell, pattern, givesPattern, mosaic, shownControl, shown, cell}
+use Rattle.display.specs.Display.{colour, changesAfter, afterCell, cellAt, next, along, allCodes, isRow, zeroCell, zeroCells, displayed}
 use Rattle.display.specs.declared.Cell.{Cell}
 use Rattle.display.specs.declared.Symbol.{Symbol}
 use Rattle.display.specs.declared.Symbol.the-variants.{Letter, Mosaic}

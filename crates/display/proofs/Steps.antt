@@ -2,7 +2,7 @@
 use mathlib.Core.Path.{_≡_, refl, _∙_, sym, ap}
 use mathlib.Core.Bool.{Bool, true, false, not, cond, _&&_, _||_, false≢true}
 use mathlib.Core.List.{List, [], _∷_, _++_, append-assoc}
-use Prim.Native.Nat.{ℕ, suc, _+_, _<_, _≤_}
+use Prim.Native.Nat.{ℕ, _+_, _<_, _≤_}
 use native.Mathlib.Numerals.{add-one}
 use native.Mathlib.Omega.{arith}
 use borrow.Author.Tests.{eqb-true}
@@ -10,7 +10,8 @@ use lib.Dec.{eqb, leb, ltb}
 use lib.ListN.{length, getD, take, drop, set, take-append-drop}
 use lib.Seq.{drop-cons, take-suc-set, take-append-le, take-take, drop-drop, length-take-le}
 use Rattle.laws.proofs.Opposite.{at-most-is}
-use Rattle.display.specs.Display.{ownCell, shown, cell, afterCell, cellAt, next, along, columns, allCodes, isRow, zeroCells}
+use Rattle.grid.specs.Grid.{columns}
+use Rattle.display.specs.Display.{ownCell, shown, cell, afterCell, cellAt, next, along, allCodes, isRow, zeroCells}
 use Rattle.display.specs.declared.Cell.{Cell}
 use Rattle.display.specs.declared.state.RowState.{RowState}
 

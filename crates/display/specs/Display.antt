@@ -2,11 +2,13 @@
 -- cell, and the row, which is that step repeated. Codes are hexadecimal, patterns decimal.
 use mathlib.Core.Bool.{Bool, true, false, not, cond, _&&_, _||_}
 use mathlib.Core.List.{List, [], _∷_}
-use Prim.Native.Nat.{ℕ, _+_, _-_, _*_, _/_, _%_, _^_}
+use Prim.Native.Nat.{ℕ, _+_, _*_, _%_}
 use lib.Dec.{eqb, leb, ltb}
 use lib.ListN.{length, replicate}
+use Rattle.laws.specs.Digits.{bit}
 use Rattle.laws.specs.Every.{every}
 use Rattle.laws.specs.Paper.{Paper, accepted, refusedBy}
+use Rattle.grid.specs.Grid.{columns}
 use Rattle.display.specs.declared.Cell.{Cell}
 use Rattle.display.specs.declared.Row.{Row}
 use Rattle.display.specs.declared.RowAnswer.{RowAnswer}
@@ -82,10 +84,6 @@ ownCell state code =
 -- a code from one to another
 unfoldable pub within : ℕ → ℕ → ℕ → Bool
 within low high code = leb low code && leb code high
-
--- the bit bN of a code
-unfoldable pub bit : ℕ → ℕ → ℕ
-bit code n = code / 2 ^ (n - 1) % 2
 
 unfoldable pub pattern : ℕ → ℕ
 unfolding bit
@@ -181,9 +179,6 @@ along state [] = []
 along state (code ∷ codes) = cellAt state code ∷ along (next state code) codes
 
 -- ---- refusal 25, and the answer
-
-abbrev pub columns : ℕ
-columns = 40
 
 -- codes of 00 to 7F
 unfoldable pub allCodes : List ℕ → Bool

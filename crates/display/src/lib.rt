@@ -6,12 +6,11 @@ ghost use mathlib.Core.Bool.{cond};
 ghost use mathlib.Core.List.{_++_};
 ghost use Prim.Native.Nat.{_≤_};
 ghost use lib.ListN.{length, take, drop};
-ghost use Rattle.display.specs.Display.{start, along, columns, isRow, zeroCells, displayed, rowPaper};
+ghost use Rattle.grid.specs.Grid.{columns};
+ghost use Rattle.display.specs.Display.{start, along, isRow, zeroCells, displayed, rowPaper};
 ghost use Rattle.display.specs.Private.{answerIf};
+use grid::COLUMNS;
 use state::RowState;
-
-// The cells of a row.
-pub const COLUMNS: usize = 40;
 
 // The highest code.
 pub const LAST_CODE: u8 = 0x7F;

@@ -5,21 +5,22 @@ use mathlib.Core.List.{List, [], _∷_}
 use Prim.Native.Nat.{ℕ, _+_, _<_, _≤_}
 use native.Mathlib.Omega.{arith}
 use lib.ListN.{length, getD}
-use Rattle.laws.specs.Paper.{Paper, accepted}
-use Rattle.field.specs.Field.{idAt, afterAt, teletextId, Here, the-end, a-unit, refused, here, Way, leave, goOn, asked, start, unitAnswer, unitOn, unitAt}
-use Rattle.field.specs.Search.{stepOf, step}
-use Rattle.field.specs.Private.{lineStep}
-use Rattle.field.proofs.Units.{counts, is-unit, begins-at, start-plain}
+use Rattle.laws.specs.Paper.{Paper, accepted, refusedBy}
+use Rattle.field.specs.Field.{idAt, afterAt, headLength, teletextId, Here, the-end, a-unit, refused, here}
+use Rattle.field.specs.Field.{Start, startAt, nowhere, asked, start, unitAnswer, unitFrom, unitAt}
+use Rattle.field.specs.Search.{goesOn, stepOf, step, endedPaper}
+use Rattle.field.specs.Private.{answered, stepTold, lineStep}
+use Rattle.field.proofs.Units.{counts, is-unit, begins-at}
 
 module _ (field : List ℕ) (place : ℕ) where
-  leaves-of : (h : Here) (paper : Paper) → paper ≡ unitAnswer field place h → length (paper .values) < 3 → leave paper ≡ stepOf field place h
-  unfolding stepOf unitAnswer
-  leaves-of the-end paper e few = ap leave e
-  leaves-of (refused number) paper e few = ap leave e
+  leaves-of : (h : Here) (paper : Paper) → paper ≡ unitAnswer field place h → length (paper .values) < 3 → answered paper ≡ stepTold field (stepOf field place h)
+  unfolding stepOf unitAnswer stepTold endedPaper
+  leaves-of the-end paper e few = ap answered e
+  leaves-of (refused number) paper e few = ap answered e
   leaves-of a-unit paper e few = absurd (let n = counts e in omega arith)
 
   -- where no unit stands, the answer is the walk's
-  pub leaves : (paper : Paper) → paper ≡ unitAnswer field place (here field place) → length (paper .values) < 3 → leave paper ≡ step field place
+  pub leaves : (paper : Paper) → paper ≡ unitAnswer field place (here field place) → length (paper .values) < 3 → answered paper ≡ stepTold field (step field place)
   unfolding step
   leaves paper e few = leaves-of (here field place) paper e few
 
@@ -45,23 +46,23 @@ module _ (field : List ℕ) (place : ℕ) where
   at-unit h = ap (stepOf field place) (sym h)
 
   -- at a unit of another id the walk goes on
-  pub other-id : here field place ≡ a-unit → teletextId (idAt field place) ≡ false → goOn (afterAt field place) ≡ step field place
+  pub other-id : here field place ≡ a-unit → teletextId (idAt field place) ≡ false → goesOn (afterAt field place) ≡ step field place
   unfolding stepOf
   other-id h t = rw (← at-unit h) (simp t)
 
   -- at a unit of a teletext id the line decides
-  pub line-decides : here field place ≡ a-unit → teletextId (idAt field place) ≡ true → lineStep field place (afterAt field place) ≡ step field place
+  pub line-decides : here field place ≡ a-unit → teletextId (idAt field place) ≡ true → lineStep field place ≡ step field place
   unfolding stepOf lineStep
   line-decides h t = rw (← at-unit h) (simp t)
 
 -- ---- from a place asked
 
 module _ (field : List ℕ) (place id size after : ℕ) where
-  unit-on : (way : Way) → start field place ≡ way → unitOn field way ≡ accepted (id ∷ size ∷ after ∷ []) → (asked place + 2 ≤ after) × (after ≤ length field)
-  unfolding unitOn accepted
-  unit-on (leave answer) s e =
-      absurd (let none = start-plain field place answer s in let three = counts e in omega arith)
-  unit-on (goOn first) s e =
+  unit-on : (first : Start) → start field place ≡ first → unitFrom field first ≡ accepted (id ∷ size ∷ after ∷ [])
+      → (asked place + headLength ≤ after) × (after ≤ length field)
+  unfolding unitFrom accepted refusedBy
+  unit-on (nowhere number) s e = absurd (let n = counts e in omega arith)
+  unit-on (startAt first) s e =
       let told = tells field first (here field first) id size after (sym e) in
       let fits = is-unit field first (told .stands) .whole in
       let is = told .after-is in
@@ -69,6 +70,6 @@ module _ (field : List ℕ) (place id size after : ℕ) where
       (omega arith, omega arith)
 
   -- the place after a unit lies two bytes or more further on, and in the field or at its end: who goes from unit to unit comes to the end
-  pub unit-further : unitAt field place ≡ accepted (id ∷ size ∷ after ∷ []) → (asked place + 2 ≤ after) × (after ≤ length field)
+  pub unit-further : unitAt field place ≡ accepted (id ∷ size ∷ after ∷ []) → (asked place + headLength ≤ after) × (after ≤ length field)
   unfolding unitAt
   unit-further e = unit-on (start field place) refl e

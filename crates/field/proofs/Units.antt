@@ -1,16 +1,19 @@
 -- What stands at a place, by the tests: which case of `here` holds, and what each case shows.
-use mathlib.Core.Path.{_≡_, refl, sym, ap}
+use mathlib.Core.Path.{_≡_, refl, ap}
 use mathlib.Core.Logic.{_⊎_, inl, inr}
 use mathlib.Core.Bool.{Bool, true, false, cond, not, _&&_, _||_}
-use mathlib.Core.List.{List, []}
-use mathlib.Core.Option.{Option, none, some}
+use mathlib.Core.List.{List}
 use Prim.Native.Nat.{ℕ, zero, suc, _+_, _<_, _≤_}
 use native.Mathlib.Omega.{arith}
 use borrow.Author.Tests.{eq-eqb, ne-eqb, lt-ltb, le-ltb, lt-leb, ltb-false, eqb-true, eqb-false, not-false}
 use lib.Dec.{eqb}
 use lib.ListN.{length}
-use Rattle.laws.specs.Paper.{Paper, accepted, refusedBy}
-use Rattle.field.specs.Field.{identifier, low, high, known, noField, idAt, lengthAt, afterAt, teletextId, short, wrongLength, the-end, a-unit, refused, here, Way, leave, goOn, asked, pastField, start, unitOn, unitAt}
+use Rattle.laws.specs.Paper.{Paper}
+use Rattle.field.specs.Field.{identifier, low, high, known, noField, pastField, asked, Start, startAt, nowhere, start}
+use Rattle.field.specs.Field.{idAt, lengthAt, afterAt, teletextId, teletextLength, short, wrongLength, the-end, a-unit, refused, here}
+use Rattle.field.specs.Field.{unitAnswer, unitFrom, unitAt, anyUnitPaper}
+use Rattle.field.specs.declared.AnyUnit.{AnyUnit}
+use Rattle.field.specs.declared.AnyUnit.the-variants.{Whole, End, NoField, PastField, Short, WrongLength}
 
 -- what two cases come to that can't both hold
 pub never : _≡_ {A = ℕ} 0 1 → ⊥
@@ -53,14 +56,29 @@ module _ (field : List ℕ) (place : ℕ) where
 
 -- ---- from a place asked
 
-pub unit-from : (field : List ℕ) (place : ℕ) {way : Way} → way ≡ start field place → unitOn field way ≡ unitAt field place
+pub unit-from : (field : List ℕ) (place : ℕ) {first : Start} → first ≡ start field place → unitFrom field first ≡ unitAt field place
 unfolding unitAt
-unit-from field place e = ap (unitOn field) e
+unit-from field place e = ap (unitFrom field) e
 
-on-goes : (a b : Bool) (p q : Paper) (x first : ℕ) → cond a (leave p) (cond b (leave q) (goOn x)) ≡ goOn first → (a ≡ false) × (b ≡ false) × (x ≡ first)
-on-goes true b p q x first e = absurd (never (cc))
-on-goes false true p q x first e = absurd (never (cc))
-on-goes false false p q x first e = (refl, refl, cc)
+-- a field is entered at a place just where neither 14 nor 17 refuses
+entered : (a b : Bool) (m n x first : ℕ) → cond a (nowhere m) (cond b (nowhere n) (startAt x)) ≡ startAt first → (a ≡ false) × (b ≡ false) × (x ≡ first)
+entered true b m n x first e = absurd (never (cc))
+entered false true m n x first e = absurd (never (cc))
+entered false false m n x first e = (refl, refl, cc)
+
+on-start : (field : List ℕ) (place first : ℕ) → start field place ≡ startAt first → (noField field ≡ false) × (pastField field place ≡ false) × (asked place ≡ first)
+unfolding start
+on-start field place first e = entered _ _ _ _ _ _ e
+
+not-entered : (a b : Bool) (x number : ℕ) → cond a (nowhere 14) (cond b (nowhere 17) (startAt x)) ≡ nowhere number → (14 ≡ number) ⊎ (17 ≡ number)
+not-entered true b x number e = inl (cc)
+not-entered false true x number e = inr (cc)
+not-entered false false x number e = absurd (never (cc))
+
+-- a field that is not entered is refused by 14 or by 17
+pub start-refused : (field : List ℕ) (place number : ℕ) → start field place ≡ nowhere number → (14 ≡ number) ⊎ (17 ≡ number)
+unfolding start
+start-refused field place number e = not-entered (noField field) (pastField field place) (asked place) number e
 
 not-empty : (field : List ℕ) → noField field ≡ false → 0 < length field
 unfolding noField
@@ -85,68 +103,25 @@ begun field place first (known-is, not-past, e) =
     let there = asked-inside place (length field) (not-empty field known-is) (ltb-false (length field) place not-past) in
     record { identified = known-is; behind = omega arith; within = omega arith }
 
-on-start : (field : List ℕ) (place first : ℕ) → start field place ≡ goOn first → (noField field ≡ false) × (pastField field place ≡ false) × (asked place ≡ first)
-unfolding start
-on-start field place first e = on-goes _ _ _ _ _ _ e
-
-pub begins : (field : List ℕ) (place first : ℕ) → start field place ≡ goOn first → Begins field first
+pub begins : (field : List ℕ) (place first : ℕ) → start field place ≡ startAt first → Begins field first
 begins field place first e = begun field place first (on-start field place first e)
 
-pub begins-at : (field : List ℕ) (place first : ℕ) → start field place ≡ goOn first → asked place ≡ first
+pub begins-at : (field : List ℕ) (place first : ℕ) → start field place ≡ startAt first → asked place ≡ first
 begins-at field place first e = on-start field place first e .2
 
 pub asked-behind : (place : ℕ) → 0 < place → asked place ≡ place
 unfolding asked
 asked-behind place behind = rw (ne-eqb place 0 (λ e. omega arith))
 
-picks : (a b : Bool) (p q : Paper) (x y : ℕ) → a ≡ false → b ≡ false → x ≡ y → cond a (leave p) (cond b (leave q) (goOn x)) ≡ goOn y
-picks a b p q x y e f g = rw (e, f, g)
-
 not-past-field : (field : List ℕ) (place : ℕ) → place ≤ length field → pastField field place ≡ false
 unfolding pastField
 not-past-field field place within = le-ltb (length field) place within
 
 -- a place behind the identifier and within the field is its own start
-pub starts : (field : List ℕ) (place : ℕ) → Begins field place → start field place ≡ goOn place
+pub starts : (field : List ℕ) (place : ℕ) → Begins field place → start field place ≡ startAt place
 unfolding start
 starts field place begin =
-    picks (noField field) (pastField field place) _ _ (asked place) place
-    (begin .identified) (not-past-field field place (begin .within)) (asked-behind place (begin .behind))
-
--- a search that does not start is refused by 14 or by 17
-abbrev pub Refused-first : Paper → Type 0
-Refused-first answer = (refusedBy 14 [] ≡ answer) ⊎ (refusedBy 17 [] ≡ answer)
-
-left-first : (a b : Bool) (p q : Paper) (x : ℕ) (answer : Paper) → cond a (leave p) (cond b (leave q) (goOn x)) ≡ leave answer → (p ≡ answer) ⊎ (q ≡ answer)
-left-first true b p q x answer e = inl (cc)
-left-first false true p q x answer e = inr (cc)
-left-first false false p q x answer e = absurd (never (cc))
-
-pub start-refused : (field : List ℕ) (place : ℕ) (answer : Paper) → start field place ≡ leave answer → Refused-first answer
-unfolding start
-start-refused field place answer e = left-first (noField field) (pastField field place) (refusedBy 14 []) (refusedBy 17 []) (asked place) answer e
-
--- 14 and 17 have no value
-no-value : (answer : Paper) → Refused-first answer → length (answer .values) ≡ 0
-unfolding refusedBy
-no-value answer (inl e) = sym (counts e)
-no-value answer (inr e) = sym (counts e)
-
-pub start-plain : (field : List ℕ) (place : ℕ) (answer : Paper) → start field place ≡ leave answer → length (answer .values) ≡ 0
-start-plain field place answer e = no-value answer (start-refused field place answer e)
-
-pub valued-goes : (answer : Paper) → 0 < length (answer .values) → Refused-first answer → ⊥
-valued-goes answer valued r = let none = no-value answer r in omega arith
-
--- nor are they accepted
-numbered : Option ℕ → ℕ
-numbered none = 0
-numbered (some n) = n
-
-pub accepted-goes : (values : List ℕ) → Refused-first (accepted values) → ⊥
-unfolding refusedBy accepted numbered
-accepted-goes values (inl e) = let n : _≡_ {A = ℕ} 14 0 = ap (λ (p : Paper). numbered (p .number)) e in omega arith
-accepted-goes values (inr e) = let n : _≡_ {A = ℕ} 17 0 = ap (λ (p : Paper). numbered (p .number)) e in omega arith
+    rw (begin .identified, not-past-field field place (begin .within), asked-behind place (begin .behind))
 
 -- ---- what a unit shows
 
@@ -193,11 +168,37 @@ fixed-length false true true c e k u w = not-false e w
 fixed-length false true false c e k u w = absurd (never (cc))
 fixed-length false false t c e k u w = absurd (never (cc))
 
-right-length : (byte id size : ℕ) → known byte ≡ true → teletextId id ≡ true → wrongLength byte id size ≡ false → size ≡ 44
+right-length : (byte id size : ℕ) → known byte ≡ true → teletextId id ≡ true → wrongLength byte id size ≡ false → size ≡ teletextLength
 unfolding known wrongLength
-right-length byte id size k t w = eqb-true size 44 (fixed-length (low byte) (high byte) (teletextId id) (eqb id 0xC0) (eqb size 44) k t w)
+right-length byte id size k t w = eqb-true size teletextLength (fixed-length (low byte) (high byte) (teletextId id) (eqb id 0xC0) (eqb size teletextLength) k t w)
 
 -- a unit of a teletext id has 44 bytes
 pub teletext-length : (field : List ℕ) (place : ℕ) → noField field ≡ false → IsUnit field place → teletextId (idAt field place) ≡ true
-    → lengthAt field place ≡ 44
+    → lengthAt field place ≡ teletextLength
 teletext-length field place k u t = right-length (identifier field) (idAt field place) (lengthAt field place) (is-known field k) t (u .allowed)
+
+-- ---- every answer about a place is one that `unit_at` has a case for
+
+pub record Answered (answer : Paper) : Type 0 where
+  pub case : AnyUnit
+  pub is : answer ≡ anyUnitPaper case
+
+at-place : (field : List ℕ) (place : ℕ) (at-end past wrong : Bool)
+    → Answered (unitAnswer field place (cond at-end the-end (cond past (refused 15) (cond wrong (refused 16) a-unit))))
+unfolding unitAnswer anyUnitPaper
+at-place field place true past wrong = record { case = End; is = refl }
+at-place field place false true wrong = record { case = Short place; is = refl }
+at-place field place false false true = record { case = WrongLength place; is = refl }
+at-place field place false false false = record { case = Whole (idAt field place) (lengthAt field place) (afterAt field place); is = refl }
+
+from-start : (field : List ℕ) (place : ℕ) (no-field past : Bool) → Answered (unitFrom field (cond no-field (nowhere 14) (cond past (nowhere 17) (startAt (asked place)))))
+unfolding unitFrom here anyUnitPaper
+from-start field place true past = record { case = NoField; is = refl }
+from-start field place false true = record { case = PastField; is = refl }
+from-start field place false false =
+    let first = asked place in
+    at-place field first (eqb first (length field)) (short field first) (wrongLength (identifier field) (idAt field first) (lengthAt field first))
+
+pub answered : (field : List ℕ) (place : ℕ) → Answered (unitAt field place)
+unfolding unitAt start
+answered field place = from-start field place (noField field) (pastField field place)

@@ -43,13 +43,21 @@ idAt field place = getD field place 0
 abbrev pub lengthAt : List ℕ → ℕ → ℕ
 lengthAt field place = getD field (place + 1) 0
 
+-- id and length
+abbrev pub headLength : ℕ
+headLength = 2
+
 -- the place after the unit
 abbrev pub afterAt : List ℕ → ℕ → ℕ
-afterAt field place = place + 2 + lengthAt field place
+afterAt field place = place + headLength + lengthAt field place
 
 -- teletext ids are 02 and 03
 unfoldable pub teletextId : ℕ → Bool
 teletextId id = eqb id 0x02 || eqb id 0x03
+
+-- the length of a teletext unit
+abbrev pub teletextLength : ℕ
+teletextLength = 44
 
 -- 15: unit runs past the field, or its length byte is missing
 unfoldable pub short : List ℕ → ℕ → Bool
@@ -58,7 +66,7 @@ short field place = ltb (length field) (afterAt field place) || leb (length fiel
 -- 16: identifier 10 to 1F and any length not 44; identifier 99 to 9B and id 02, 03 or C0 with length not 44
 unfoldable pub wrongLength : ℕ → ℕ → ℕ → Bool
 unfolding low high teletextId
-wrongLength byte id size = (low byte || high byte && (teletextId id || eqb id 0xC0)) && not (eqb size 44)
+wrongLength byte id size = (low byte || high byte && (teletextId id || eqb id 0xC0)) && not (eqb size teletextLength)
 
 -- what stands at a place that is not past the field's length
 pub data Here : Type 0 where
@@ -76,20 +84,19 @@ here field place =
 
 -- ---- from a place asked
 
--- what is made of a place: an answer, or a place to go on at
-pub data Way : Type 0 where
-  leave : Paper → Way
-  goOn : ℕ → Way
-
 -- 0 means the first unit, which stands behind the identifier; any other place is taken as a unit's start, also one inside a unit
 unfoldable pub asked : ℕ → ℕ
 asked place = cond (eqb place 0) 1 place
 
+-- where a field is entered: at a place, or nowhere, refused by a number
+pub data Start : Type 0 where
+  startAt : ℕ → Start
+  nowhere : ℕ → Start
+
 -- 14, then 17
-unfoldable pub start : List ℕ → ℕ → Way
-unfolding noField pastField asked refusedBy
-start field place =
-    cond (noField field) (leave (refusedBy 14 [])) (cond (pastField field place) (leave (refusedBy 17 [])) (goOn (asked place)))
+unfoldable pub start : List ℕ → ℕ → Start
+unfolding noField pastField asked
+start field place = cond (noField field) (nowhere 14) (cond (pastField field place) (nowhere 17) (startAt (asked place)))
 
 -- the answer at a place: a unit's id, its length and the place after; the end has no value; 15 and 16 carry the unit's place
 unfoldable pub unitAnswer : List ℕ → ℕ → Here → Paper
@@ -98,15 +105,15 @@ unitAnswer field place the-end = accepted []
 unitAnswer field place a-unit = accepted (idAt field place ∷ lengthAt field place ∷ afterAt field place ∷ [])
 unitAnswer field place (refused number) = refusedBy number (place ∷ [])
 
-unfoldable pub unitOn : List ℕ → Way → Paper
-unfolding unitAnswer here
-unitOn field (leave answer) = answer
-unitOn field (goOn place) = unitAnswer field place (here field place)
+unfoldable pub unitFrom : List ℕ → Start → Paper
+unfolding unitAnswer here refusedBy
+unitFrom field (nowhere number) = refusedBy number []
+unitFrom field (startAt place) = unitAnswer field place (here field place)
 
 -- the unit at a place, of any id
 unfoldable pub unitAt : List ℕ → ℕ → Paper
-unfolding unitOn start
-unitAt field place = unitOn field (start field place)
+unfolding unitFrom start
+unitAt field place = unitFrom field (start field place)
 
 -- the paper's number and values of `unit_at`'s answer
 unfoldable pub anyUnitPaper : AnyUnit → Paper

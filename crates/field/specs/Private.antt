@@ -1,27 +1,40 @@
 -- How the answers of the crate's private functions are read. No public promise cites them.
 use mathlib.Core.Bool.{cond}
-use mathlib.Core.List.{List, []}
-use Prim.Native.Nat.{ℕ}
-use Rattle.laws.specs.Paper.{refusedBy}
-use Rattle.field.specs.Field.{Way, leave, goOn}
-use Rattle.field.specs.Search.{linePasses, foundAnswer, foundPaper}
+use mathlib.Core.List.{List}
+use Prim.Native.Nat.{ℕ, _+_}
+use Rattle.laws.specs.Paper.{Paper}
+use Rattle.field.specs.Field.{Start, startAt, nowhere, headLength, teletextLength, afterAt}
+use Rattle.field.specs.Search.{linePasses, found, Step, ends, goesOn, endedPaper, foundPaper}
 use Rattle.field.specs.declared.First.{First}
 use Rattle.field.specs.declared.First.the-variants.{At, NoField, PastField}
 use Rattle.field.specs.declared.Look.{Look}
 use Rattle.field.specs.declared.Look.the-variants.{Leave, GoOn}
 
-unfoldable pub firstWay : First → Way
-unfolding refusedBy
-firstWay (At place) = goOn place
-firstWay NoField = leave (refusedBy 14 [])
-firstWay PastField = leave (refusedBy 17 [])
+unfoldable pub firstStart : First → Start
+firstStart (At place) = startAt place
+firstStart NoField = nowhere 14
+firstStart PastField = nowhere 17
 
-unfoldable pub lookWay : Look → Way
+-- a step by what the code has of it: an answer, or a place to go on at
+pub data Told : Type 0 where
+  answered : Paper → Told
+  goOn : ℕ → Told
+
+unfoldable pub lookTold : Look → Told
 unfolding foundPaper
-lookWay (Leave found) = leave (foundPaper found)
-lookWay (GoOn place) = goOn place
+lookTold (Leave answer) = answered (foundPaper answer)
+lookTold (GoOn place) = goOn place
 
--- a whole unit of a teletext id, with the place after it
-unfoldable pub lineStep : List ℕ → ℕ → ℕ → Way
-unfolding linePasses foundAnswer
-lineStep field place after = cond (linePasses field place) (leave (foundAnswer field place after)) (goOn after)
+unfoldable pub stepTold : List ℕ → Step → Told
+unfolding endedPaper
+stepTold field (ends end) = answered (endedPaper field end)
+stepTold field (goesOn place) = goOn place
+
+-- a whole unit of a teletext id
+unfoldable pub lineStep : List ℕ → ℕ → Step
+unfolding linePasses
+lineStep field place = cond (linePasses field place) (ends (found place)) (goesOn (afterAt field place))
+
+-- the place after a teletext unit, by its length
+abbrev pub afterTeletext : ℕ → ℕ
+afterTeletext place = place + (headLength + teletextLength)

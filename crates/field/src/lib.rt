@@ -2,11 +2,11 @@
 // field's start, where the identifier stands.
 ghost use mathlib.Core.Bool.{false};
 ghost use mathlib.Core.Path.{_≡_};
-ghost use Prim.Native.Nat.{_+_, _≤_};
+ghost use Prim.Native.Nat.{_≤_};
 ghost use lib.ListN.{length};
-ghost use Rattle.field.specs.Field.{low, high, known, noField, lengthAt, teletextId, wrongLength, here, start, unitAnswer, unitAt, anyUnitPaper};
-ghost use Rattle.field.specs.Search.{offsetPasses, linePasses, step, searched, foundPaper};
-ghost use Rattle.field.specs.Private.{firstWay, lookWay, lineStep};
+ghost use Rattle.field.specs.Field.{afterAt, anyUnitPaper, here, high, known, lengthAt, low, noField, start, teletextId, unitAnswer, unitAt, wrongLength};
+ghost use Rattle.field.specs.Search.{foundPaper, linePasses, offsetPasses, searched, step};
+ghost use Rattle.field.specs.Private.{afterTeletext, firstStart, lineStep, lookTold, stepTold};
 
 // What stands at a place: a whole unit with its id, its length and the place after it, or the end of the field, or a refusal.
 pub enum AnyUnit {
@@ -57,6 +57,15 @@ enum Look {
 // The length of every unit under the identifiers 10 to 1F, and of every teletext unit.
 const LENGTH: u8 = 44;
 
+// What stands before a unit's bytes, id and length; and where a teletext unit has the byte of its line, its framing code and its packet.
+const HEAD: usize = 2;
+
+const LINE: usize = HEAD;
+
+const FRAMING: usize = LINE + 1;
+
+const PACKET: usize = FRAMING + 1;
+
 fn is_low(identifier: u8) -> bool
     ensures { λ r. ⌜ r ≡ low identifier ⌝ }
 {
@@ -98,7 +107,7 @@ fn is_wrong_length(identifier: u8, id: u8, length: u8) -> bool
 
 // 14, then 17, and place 0 as the first unit's.
 fn entry(field: &[u8], place: usize) -> First
-    ensures { λ r. ⌜ firstWay r ≡ start (now (field .entry)) place ⌝ }
+    ensures { λ r. ⌜ firstStart r ≡ start (now (field .entry)) place ⌝ }
 {
     if field.len() == 0 {
         return First::NoField;
@@ -137,7 +146,7 @@ fn unit_here(field: &[u8], place: usize) -> AnyUnit
     }
     let id = field[place];
     let length = length_at(field, place);
-    let bytes = length as usize + 2;
+    let bytes = length as usize + HEAD;
     if left < bytes {
         return AnyUnit::Short(place);
     }
@@ -161,22 +170,22 @@ pub fn unit_at(field: &[u8], place: usize) -> AnyUnit
 
 // Whether the offset and the framing code of a whole teletext unit pass.
 fn line_passes(field: &[u8], place: usize) -> bool
-    requires { ⌜ place + 46 ≤ length (now field) ⌝ }
+    requires { ⌜ afterTeletext place ≤ length (now field) ⌝ }
     ensures { λ r. ⌜ r ≡ linePasses (now (field .entry)) place ⌝ }
 {
-    offset_passes(field[place + 2] % 32) & coding::framing_passes(field[place + 3])
+    offset_passes(field[place + LINE] % 32) & coding::framing_passes(field[place + FRAMING])
 }
 
 // A whole unit of a teletext id: its packet, or the next place where its line does not pass.
 fn look_at_line(field: &[u8], place: usize, next: usize) -> Look
-    requires { ⌜ place + 46 ≤ length (now field) ⌝ }
-    ensures { λ r. ⌜ lookWay r ≡ lineStep (now (field .entry)) place next ⌝ }
+    requires { ⌜ (afterTeletext place ≤ length (now field)) × (next ≡ afterAt (now field) place) ⌝ }
+    ensures { λ r. ⌜ lookTold r ≡ stepTold (now (field .entry)) (lineStep (now (field .entry)) place) ⌝ }
 {
     if !line_passes(field, place) {
         return Look::GoOn(next);
     }
-    let line = field[place + 2];
-    let packet = place + 4;
+    let line = field[place + LINE];
+    let packet = place + PACKET;
     let found = Found::Packet {
         packet,
         parity: line / 32 % 2,
@@ -189,7 +198,7 @@ fn look_at_line(field: &[u8], place: usize, next: usize) -> Look
 // One unit of a walk.
 fn look_at(field: &[u8], place: usize) -> Look
     requires { ⌜ (place ≤ length (now field)) × (noField (now field) ≡ false) ⌝ }
-    ensures { λ r. ⌜ lookWay r ≡ step (now (field .entry)) place ⌝ }
+    ensures { λ r. ⌜ lookTold r ≡ stepTold (now (field .entry)) (step (now (field .entry)) place) ⌝ }
 {
     match unit_here(field, place) {
         AnyUnit::Whole {

@@ -12,3 +12,4 @@ pub mod Opposite
 pub mod Runs
 pub mod Table
 pub mod Tabulated
+pub mod Words

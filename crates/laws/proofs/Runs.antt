@@ -1,14 +1,14 @@
--- Parts of a list taken and stored element by element, as straight-line code does it.
-use mathlib.Core.Path.{_≡_, refl, _∙_, ap, sym}
-use mathlib.Core.List.{List, [], _∷_, _++_}
-use Prim.Native.Nat.{ℕ, suc, _+_, _≤_, _<_}
-use native.Mathlib.Nat.{add-suc}
-use native.Mathlib.Numerals.{add-one}
-use lib.ListN.{length, getD, set, take, drop}
-use lib.Seq.{ext-getD, sets, sets-eq}
+-- Parts of a list: taken out of it element by element, and stored into it run by run.
+use mathlib.Core.Path.{_≡_, _∙_, ap, sym}
+use mathlib.Core.List.{List, _++_, append-assoc, append-nil}
+use Prim.Native.Nat.{ℕ, _+_, _≤_, _<_}
+use native.Mathlib.Nat.{add-assoc}
+use native.Mathlib.Omega.{arith}
+use lib.ListN.{length, getD, take, drop, drop-of-length-le}
+use lib.Seq.{drop-at, drop-drop, drop-paste, ext-getD, length-take-le, paste, take-add, take-all, take-at, take-paste}
 use Rattle.laws.proofs.Lists.{length-part, getD-part}
 use Rattle.laws.proofs.Table.{tabulate, entry}
-use Rattle.laws.proofs.Tabulated.{length-tabulate, tabulated}
+use Rattle.laws.proofs.Tabulated.{length-tabulate}
 
 -- so many elements from a place on, one by one
 pub part-is : (xs : List ℕ) (from n : ℕ) → from + n ≤ length xs → tabulate (λ k. getD xs (from + k) 0) 0 n ≡ take n (drop from xs)
@@ -19,27 +19,33 @@ part-is xs from n h =
     let inside : k < n = rw (length-tabulate (λ k. getD xs (from + k) 0) n 0) at below in
     entry (λ k. getD xs (from + k) 0) n k inside ∙ sym (getD-part xs from n k 0 inside))
 
--- a run of stores at the places at + k, at + (k + 1) and so on; where k is a numeral it computes to the stores themselves
-abbrev pub storedFrom : List ℕ → ℕ → ℕ → List ℕ → List ℕ
-storedFrom xs at k [] = xs
-storedFrom xs at k (v ∷ vs) = storedFrom (set xs (at + k) v) at (suc k) vs
+-- a list stored from a place on, n elements of it and then m more
+pub pasted-more : (old : List ℕ) (at : ℕ) (new : List ℕ) (n m : ℕ) → at + (n + m) ≤ length old → n + m ≤ length new
+    → take (at + n) (paste old at new n) ++ take m (drop n new) ++ drop (at + n + m) (paste old at new n) ≡ paste old at new (n + m)
+pasted-more old at new n m h k =
+    let front = take-paste old at new n (omega arith) (omega arith) in
+    let back : drop (at + n + m) (paste old at new n) ≡ drop (at + (n + m)) old =
+    sym (drop-drop m (at + n) (paste old at new n))
+    ∙ (ap (drop m) (drop-paste old at new n (omega arith) (omega arith))
+    ∙ (drop-drop m (at + n) old ∙ ap (λ (i : ℕ). drop i old) (add-assoc at n m))) in
+    (λ i. front i ++ take m (drop n new) ++ back i)
+    ∙ ap (λ (xs : List ℕ). xs ++ drop (at + (n + m)) old)
+    (append-assoc (take at old) (take n new) (take m (drop n new)) ∙ ap (λ (xs : List ℕ). take at old ++ xs) (sym (take-add n m new)))
 
-stored-sets : (xs : List ℕ) (at k : ℕ) (vs : List ℕ) → storedFrom xs at k vs ≡ sets xs (at + k) vs
-stored-sets xs at k [] = refl
-stored-sets xs at k (v ∷ vs) = stored-sets (set xs (at + k) v) at (suc k) vs ∙ ap (λ (i : ℕ). sets (set xs (at + k) v) i vs) (add-suc at k)
+-- a list laid over another from its start on, n elements of it and then m more
+abbrev pub over : List ℕ → List ℕ → ℕ → List ℕ
+over old new n = take n new ++ drop n old
 
--- the first of them at the place itself
-pub stored-run : (xs : List ℕ) (at v : ℕ) (vs : List ℕ) → at + suc (length vs) ≤ length xs
-    → storedFrom (set xs at v) at 1 vs ≡ take at xs ++ (v ∷ vs) ++ drop (at + suc (length vs)) xs
-stored-run xs at v vs h =
-    stored-sets (set xs at v) at 1 vs
-    ∙ (ap (λ (i : ℕ). sets (set xs at v) i vs) (add-one at) ∙ sets-eq (v ∷ vs) xs at h)
+pub over-more : (old new : List ℕ) (n m : ℕ) → n ≤ length new
+    → take n (over old new n) ++ take m (drop n new) ++ drop (n + m) (over old new n) ≡ over old new (n + m)
+over-more old new n m h =
+    let long = length-take-le n new h in
+    let back : drop (n + m) (over old new n) ≡ drop (n + m) old =
+    sym (drop-drop m n (over old new n)) ∙ (ap (drop m) (drop-at (take n new) (drop n old) n long) ∙ drop-drop m n old) in
+    (λ i. take-at (take n new) (drop n old) n long i ++ take m (drop n new) ++ back i)
+    ∙ ap (λ (xs : List ℕ). xs ++ drop (n + m) old) (sym (take-add n m new))
 
--- all of a list, stored from a place on
-pub stored-list : (n : ℕ) (xs : List ℕ) (at : ℕ) (vs : List ℕ) → length vs ≡ suc n → at + suc n ≤ length xs
-    → storedFrom (set xs at (getD vs 0 0)) at 1 (tabulate (λ k. getD vs k 0) 1 n) ≡ take at xs ++ vs ++ drop (at + suc n) xs
-stored-list n xs at vs e h =
-    let l : length (tabulate (λ k. getD vs k 0) 1 n) ≡ n = length-tabulate (λ k. getD vs k 0) n 1 in
-    stored-run xs at (getD vs 0 0) (tabulate (λ k. getD vs k 0) 1 n) (rw l h)
-    ∙ (ap (λ (k : ℕ). take at xs ++ (getD vs 0 0 ∷ tabulate (λ k. getD vs k 0) 1 n) ++ drop (at + suc k) xs) l
-    ∙ ap (λ (ys : List ℕ). take at xs ++ ys ++ drop (at + suc n) xs) (sym (tabulated (suc n) vs e)))
+-- all of it, over one of its length
+pub over-all : (old new : List ℕ) (n : ℕ) → length old ≤ n → length new ≤ n → over old new n ≡ new
+over-all old new n h k =
+    ap (λ (xs : List ℕ). take n new ++ xs) (drop-of-length-le old h) ∙ (append-nil (take n new) ∙ take-all n new k)

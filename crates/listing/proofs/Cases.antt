@@ -1,7 +1,7 @@
 -- Worked listings, computed from the definitions: the two fields that document 01 gives, the empty one, and units before a refusal.
 use mathlib.Core.Path.{_≡_, refl}
 use mathlib.Core.List.{[], _∷_, _++_}
-use Rattle.listing.specs.Lines.{listed, decimal}
+use Rattle.listing.specs.Lines.{most, listed, decimal}
 
 -- "1 255 0" and "end 3"
 pub stuffing : listed (0x99 ∷ 0xFF ∷ 0x00 ∷ []) ≡ 0x31 ∷ 0x20 ∷ 0x32 ∷ 0x35 ∷ 0x35 ∷ 0x20 ∷ 0x30 ∷ 0x0A ∷ 0x65 ∷ 0x6E ∷ 0x64 ∷ 0x20 ∷ 0x33 ∷ 0x0A ∷ []
@@ -26,6 +26,6 @@ pub units-then-refused : listed (0x99 ∷ 0x04 ∷ 0x01 ∷ 0x00 ∷ 0xFF ∷ []
 unfolding listed
 units-then-refused = refl
 
-pub digits : decimal 65536 ≡ 0x36 ∷ 0x35 ∷ 0x35 ∷ 0x33 ∷ 0x36 ∷ []
+pub digits : decimal most ≡ 0x36 ∷ 0x35 ∷ 0x35 ∷ 0x33 ∷ 0x36 ∷ []
 unfolding decimal
 digits = refl

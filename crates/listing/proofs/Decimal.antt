@@ -2,7 +2,7 @@
 use mathlib.Core.Path.{_≡_, refl, sym, _∙_, ap}
 use mathlib.Core.Bool.{Bool, true, false}
 use mathlib.Core.List.{List, [], _∷_, _++_}
-use Prim.Native.Nat.{ℕ, zero, suc, _+_, _/_, _%_, _^_, _<_, _≤_}
+use Prim.Native.Nat.{ℕ, zero, suc, _+_, _/_, _%_, _^_, _<_, _≤_, _-_}
 use native.Mathlib.Omega.{arith}
 use borrow.Author.Tests.{lt-ltb, le-ltb, ltb-true, ltb-false}
 use lib.Dec.{ltb}
@@ -62,5 +62,8 @@ few-digits (suc k) n h =
     omega arith)
 
 -- a word of 64 bits has at most twenty
-pub twenty-digits : (n : ℕ) → n < 2 ^ 64 → length (decimal n) ≤ 20
-twenty-digits n h = few-digits 19 n (omega arith)
+abbrev pub mostDigits : ℕ
+mostDigits = 20
+
+pub word-digits : (n : ℕ) → n < 2 ^ 64 → length (decimal n) ≤ mostDigits
+word-digits n h = few-digits (mostDigits - 1) n (omega arith)

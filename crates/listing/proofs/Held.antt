@@ -10,7 +10,7 @@ use Rattle.listing.specs.Lines.{decimal, refusedWord}
 use Rattle.listing.specs.Held.{lineOf, room}
 use Rattle.listing.specs.Private.{textOf, Ready, Written}
 use Rattle.listing.specs.declared.Line.{Line}
-use Rattle.listing.proofs.Decimal.{twenty-digits}
+use Rattle.listing.proofs.Decimal.{mostDigits, word-digits}
 
 -- a line that holds a text
 pub text-of : (text : List ℕ) → textOf (lineOf text) ≡ text
@@ -104,8 +104,8 @@ module _ {line : Line} {text : List ℕ} {most : ℕ} (h : Holds line text most)
   pub has-room : (more : ℕ) → most + more ≤ room → Ready line more
   has-room more fits = let short = h .short in ready text (h .is) more (omega arith)
 
-  pub has-room-for : (n : ℕ) → n < 2 ^ 64 → most + 20 ≤ room → Ready line (length (decimal n))
-  has-room-for n word fits = let digits = twenty-digits n word in weaker (has-room 20 fits) (length (decimal n)) (omega arith)
+  pub has-room-for : (n : ℕ) → n < 2 ^ 64 → most + mostDigits ≤ room → Ready line (length (decimal n))
+  has-room-for n word fits = let digits = word-digits n word in weaker (has-room mostDigits fits) (length (decimal n)) (omega arith)
 
   pub with-text : (more : List ℕ) {longer : Line} → longer ≡ lineOf (textOf line ++ more) → Holds longer (text ++ more) (most + length more)
   with-text more e =
@@ -113,17 +113,17 @@ module _ {line : Line} {text : List ℕ} {most : ℕ} (h : Holds line text most)
       let both = length-append text more in
       record { is = and-then text (h .is) more e; short = omega arith }
 
-  pub with-number : (n : ℕ) → n < 2 ^ 64 → {longer : Line} → longer ≡ lineOf (textOf line ++ decimal n) → Holds longer (text ++ decimal n) (most + 20)
+  pub with-number : (n : ℕ) → n < 2 ^ 64 → {longer : Line} → longer ≡ lineOf (textOf line ++ decimal n) → Holds longer (text ++ decimal n) (most + mostDigits)
   with-number n word e =
       let held = with-text (decimal n) e in
-      let digits = twenty-digits n word in
+      let digits = word-digits n word in
       let short = held .short in
       record { is = held .is; short = omega arith }
 
 -- how a refusal starts
-pub refused-is : {line : Line} (n : ℕ) → n < 2 ^ 64 → line ≡ lineOf (refusedWord ++ decimal n) → Holds line (refusedWord ++ decimal n) 28
+pub refused-is : {line : Line} (n : ℕ) → n < 2 ^ 64 → line ≡ lineOf (refusedWord ++ decimal n) → Holds line (refusedWord ++ decimal n) (length refusedWord + mostDigits)
 refused-is n word e =
-    let digits = twenty-digits n word in
+    let digits = word-digits n word in
     let both = length-append refusedWord (decimal n) in
     record { is = e; short = omega arith }
 

@@ -7,35 +7,15 @@ use mathlib.Core.Option.{Option, none, some}
 use Prim.Native.Nat.{ℕ, zero, suc, _+_, _-_, _<_, _≤_}
 use native.Mathlib.Omega.{arith}
 use borrow.Author.Tests.{ne-eqb}
-use lib.Dec.{eqb, ltb}
+use lib.Dec.{ltb}
 use lib.ListN.{length, take, drop, replicate, length-append}
 use lib.Seq.{take-append-seam, drop-append-seam, drop-drop}
 use Rattle.laws.specs.Paper.{Paper, accepted, refusedBy}
-use Rattle.field.specs.Field.{
-  identifier,
-  noField,
-  pastField,
-  idAt,
-  lengthAt,
-  afterAt,
-  short,
-  wrongLength,
-  the-end,
-  a-unit,
-  refused,
-  here,
-  leave,
-  goOn,
-  asked,
-  start,
-  unitAnswer,
-  unitOn,
-  unitAt,
-  anyUnitPaper,
-}
+use Rattle.field.specs.Field.{headLength, asked, unitAt, anyUnitPaper}
 use Rattle.field.specs.declared.AnyUnit.{AnyUnit}
 use Rattle.field.specs.declared.AnyUnit.the-variants.{Whole, End, NoField, PastField, Short, WrongLength}
 use Rattle.field.proofs.Steps.{unit-further}
+use Rattle.field.proofs.Units.{Answered, answered}
 use Rattle.listing.specs.Lines.{Told, last, taken, numbered, told, most, tooLongText, lineAt, following, lines, listedFrom, listed}
 use Rattle.listing.specs.Held.{room, lineOf, Held, held, nextPaper, listedPaper}
 use Rattle.listing.specs.Private.{textOf}
@@ -47,38 +27,11 @@ use Rattle.listing.proofs.Held.{holds}
 never : _≡_ {A = ℕ} 0 1 → ⊥
 never e = omega arith
 
--- ---- every answer about a place is one that `unit_at` has
-
-record Answered (answer : Paper) : Type 0 where
-  case : AnyUnit
-  is : answer ≡ anyUnitPaper case
-
-answered-here : (field : List ℕ) (place : ℕ) (at-end past wrong : Bool)
-    → Answered (unitAnswer field place (cond at-end the-end (cond past (refused 15) (cond wrong (refused 16) a-unit))))
-unfolding unitAnswer anyUnitPaper
-answered-here field place true past wrong = record { case = End; is = refl }
-answered-here field place false true wrong = record { case = Short place; is = refl }
-answered-here field place false false true = record { case = WrongLength place; is = refl }
-answered-here field place false false false = record { case = Whole (idAt field place) (lengthAt field place) (afterAt field place); is = refl }
-
-answered-on : (field : List ℕ) (place : ℕ) (no-field past : Bool)
-    → Answered (unitOn field (cond no-field (leave (refusedBy 14 [])) (cond past (leave (refusedBy 17 [])) (goOn (asked place)))))
-unfolding unitOn here anyUnitPaper
-answered-on field place true past = record { case = NoField; is = refl }
-answered-on field place false true = record { case = PastField; is = refl }
-answered-on field place false false =
-    answered-here field (asked place) (eqb (asked place) (length field)) (short field (asked place))
-    (wrongLength (identifier field) (idAt field (asked place)) (lengthAt field (asked place)))
-
-answered : (field : List ℕ) (place : ℕ) → Answered (unitAt field place)
-unfolding unitAt start
-answered field place = answered-on field place (noField field) (pastField field place)
-
 -- ---- a line that goes on
 
 -- the field is not too long, and the place after lies further on, in the field or at its end
 pub record Onward (input : List ℕ) (place after : ℕ) : Type 0 where
-  pub further : place + 2 ≤ after
+  pub further : place + headLength ≤ after
   pub within : after ≤ length input
 
 not-before : (place : ℕ) → place ≤ asked place

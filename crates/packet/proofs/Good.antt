@@ -12,11 +12,11 @@ use lib.ListN.{length, getD, length-map}
 use Rattle.laws.proofs.Lists.{getD-map}
 use Rattle.coding.specs.Bits.{turnedByte}
 use Rattle.coding.specs.Hamming.{message}
-use Rattle.packet.specs.Lines.{packetBytes, packetLength}
+use Rattle.packet.specs.Lines.{packetLength}
 use Rattle.packet.specs.Private.{eightOf}
 use Rattle.packet.specs.declared.Eight.{Eight}
 use Rattle.packet.proofs.Bytes.{length-bytes, byte-at}
-use Rattle.packet.specs.Headers.{allGood, before, headerMessages, headerOf, headerOr}
+use Rattle.packet.specs.Headers.{allGood, before, controlBytes, headerMessages, headerOf, headerOr}
 
 -- one that is refused spoils them all
 pub one-refused : (found : List (Option ℕ)) (k : ℕ) → k < length found → getD found k none ≡ none → allGood found ≡ none
@@ -59,12 +59,12 @@ each-or-refused (o ∷ found) (m ∷ messages) l e =
 module _ (packet : List ℕ) (whole : length packet ≡ packetLength) where
   length-messages : length (headerMessages packet) ≡ 8
   unfolding headerMessages
-  length-messages = length-map (packetBytes packet 3 8) message ∙ length-bytes packet 3 8 (omega arith)
+  length-messages = length-map (controlBytes packet) message ∙ length-bytes packet 3 8 (omega arith)
 
   message-is : (k : ℕ) → k < 8 → getD (headerMessages packet) k none ≡ message (turnedByte (getD packet (2 + k) 0))
   unfolding headerMessages
   message-is k h =
-      getD-map message (packetBytes packet 3 8) k none 0 (rw (length-bytes packet 3 8 (omega arith)) h)
+      getD-map message (controlBytes packet) k none 0 (rw (length-bytes packet 3 8 (omega arith)) h)
       ∙ ap message (byte-at packet 3 8 (omega arith) k h)
 
   pub header-or-spoiled : (messages : List ℕ) → 8 ≡ length messages

@@ -29,7 +29,7 @@ address-back : (a : Address) → toAddress (addressPaper a .number) (addressPape
 unfolding addressPaper
 address-back (address.Whole magazine row) = refl
 address-back (address.First magazine weight1) = refl
-address-back (address.Second weights) = refl
+address-back (address.Second second) = refl
 address-back address.Unread = refl
 address-back address.WrongLength = refl
 

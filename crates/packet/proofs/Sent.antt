@@ -19,10 +19,13 @@ use Rattle.coding.specs.Characters.{character}
 use Rattle.coding.specs.Hamming.{message, messageBits}
 use Rattle.coding.proofs.Damage.{hamming-one, hamming-two, character-odd, character-kept, character-spoiled}
 use Rattle.coding.proofs.Turning.{turned-small}
-use Rattle.packet.specs.Addresses.{addressOf, lastRow, shown}
-use Rattle.packet.specs.Headers.{headerOf, headerOr}
-use Rattle.packet.specs.Lines.{framed, packetOf, packetPart, packetByte, packetBytes}
-use Rattle.packet.specs.Sent.{linePacket, sentFirst, sentSecond, sentMagazine, sentRow, sentHeader, sentText, isByte, exactByte, oddByte, rowByRules, sentByRules, near, noneOrOdd, rowDamage, damage}
+use Rattle.grid.specs.Grid.{columns, lastRow}
+use Rattle.packet.specs.Addresses.{addressOf, shown}
+use Rattle.packet.specs.Headers.{controlBytes, headerOf, headerOr}
+use Rattle.packet.specs.Lines.{framed, framingPlace, lineLength, packetByte, packetBytes, packetLength, packetOf, packetPart, packetPlace}
+use Rattle.packet.specs.Sent.{linePacket, sentFirst, sentSecond, sentMagazine, sentRow, sentHeader, sentText}
+use Rattle.packet.specs.Sent.{isByte, exactByte, oddByte, rowByRules, sentByRules, near, noneOrOdd, rowDamage, damage}
+use Rattle.packet.specs.Texts.{columnBytes, headerColumn, headerTextBytes}
 use Rattle.packet.specs.declared.Address.the-variants.{Whole}
 use Rattle.packet.specs.declared.Framed.the-variants.{Packet}
 use Rattle.packet.specs.declared.HeaderRead.the-variants.{Good, Spoiled}
@@ -36,31 +39,35 @@ AsSent sent found = (found ≡ some sent) ⊎ (found ≡ none)
 -- ---- the parts of the two definitions
 
 module _ (s : List ℕ) (sent : T (sentByRules s)) where
-  sent-parts : T (eqb (length s) 45) × T (every isByte s) × T (eqb (getD s 2 0) framingCode) × T (every exactByte (packetBytes (linePacket s) 1 2)) × T (rowByRules (sentRow s) (linePacket s))
+  sent-parts : T (eqb (length s) lineLength)
+      × T (every isByte s)
+      × T (eqb (getD s framingPlace 0) framingCode)
+      × T (every exactByte (packetBytes (linePacket s) 1 2))
+      × T (rowByRules (sentRow s) (linePacket s))
   unfolding sentByRules
   sent-parts =
-      five (eqb (length s) 45) (every isByte s) (eqb (getD s 2 0) framingCode) (every exactByte (packetBytes (linePacket s) 1 2))
+      five (eqb (length s) lineLength) (every isByte s) (eqb (getD s framingPlace 0) framingCode) (every exactByte (packetBytes (linePacket s) 1 2))
       (rowByRules (sentRow s) (linePacket s)) sent
 
-  pub sent-packet : length (linePacket s) ≡ 42
+  pub sent-packet : length (linePacket s) ≡ packetLength
   unfolding linePacket
-  sent-packet = length-part s 3 42 (omega (arith, eqb→eq (length s) 45 (sent-parts .0)))
+  sent-packet = length-part s packetPlace packetLength (omega (arith, eqb→eq (length s) lineLength (sent-parts .0)))
 
 module _ (d : ℕ) (s r : List ℕ) (damaged : T (damage d s r)) where
-  damage-parts : T (eqb (length r) 45) × T (every isByte r) × T (leb (distance (getD r 2 0) (getD s 2 0)) 1)
+  damage-parts : T (eqb (length r) lineLength) × T (every isByte r) × T (leb (distance (getD r framingPlace 0) (getD s framingPlace 0)) 1)
       × T (everyPair (near d) (packetBytes (linePacket s) 1 2) (packetBytes (linePacket r) 1 2)) × T (rowDamage d (sentRow s) (linePacket s) (linePacket r))
   unfolding damage
   damage-parts =
-      five (eqb (length r) 45) (every isByte r) (leb (distance (getD r 2 0) (getD s 2 0)) 1)
+      five (eqb (length r) lineLength) (every isByte r) (leb (distance (getD r framingPlace 0) (getD s framingPlace 0)) 1)
       (everyPair (near d) (packetBytes (linePacket s) 1 2) (packetBytes (linePacket r) 1 2))
       (rowDamage d (sentRow s) (linePacket s) (linePacket r)) damaged
 
-  received-length : length r ≡ 45
-  received-length = eqb→eq (length r) 45 (damage-parts .0)
+  received-length : length r ≡ lineLength
+  received-length = eqb→eq (length r) lineLength (damage-parts .0)
 
-  pub received-packet : length (linePacket r) ≡ 42
+  pub received-packet : length (linePacket r) ≡ packetLength
   unfolding linePacket
-  received-packet = length-part r 3 42 (omega (arith, received-length))
+  received-packet = length-part r packetPlace packetLength (omega (arith, received-length))
 
 -- ---- bytes of two packets, pair by pair
 
@@ -106,15 +113,15 @@ module _ (d : ℕ) (s r : List ℕ) (sent : T (sentByRules s)) (damaged : T (dam
   pub delivered : framed r ≡ Packet
   unfolding framed
   delivered =
-      let near-code : T (framingPasses (getD r 2 0)) = framing-near (getD s 2 0) (getD r 2 0) (sent-parts s sent .2) (damage-parts d s r damaged .2) in
-      rw (eq-eqb _ _ (received-length d s r damaged), passed (framingPasses (getD r 2 0)) near-code)
+      let near-code : T (framingPasses (getD r framingPlace 0)) = framing-near (getD s framingPlace 0) (getD r framingPlace 0) (sent-parts s sent .2) (damage-parts d s r damaged .2) in
+      rw (eq-eqb _ _ (received-length d s r damaged), passed (framingPasses (getD r framingPlace 0)) near-code)
 
   pub delivered-packet : packetOf r ≡ linePacket r
   unfolding packetOf packetPart linePacket
   delivered-packet = rw delivered
 
   -- the address bytes of the two packets
-  address-fits : (p : List ℕ) → length p ≡ 42 → 0 + 2 ≤ length p
+  address-fits : (p : List ℕ) → length p ≡ packetLength → 0 + 2 ≤ length p
   address-fits p e = omega arith
 
   address-byte : (k : ℕ) → k < 2
@@ -154,40 +161,40 @@ module _ (d : ℕ) (s r : List ℕ) (sent : T (sentByRules s)) (damaged : T (dam
 
 -- ---- headers
 
-header-parts : (row : ℕ) (p : List ℕ) → row ≡ 0 → T (rowByRules row p) → T (every exactByte (packetBytes p 3 8)) × T (every oddByte (packetBytes p 11 32))
+header-parts : (row : ℕ) (p : List ℕ) → row ≡ 0 → T (rowByRules row p) → T (every exactByte (controlBytes p)) × T (every oddByte (headerTextBytes p))
 unfolding rowByRules
 header-parts row p e t =
     let u = rw (eq-eqb row 0 e) at t in (
-      both-left (every exactByte (packetBytes p 3 8)) (every oddByte (packetBytes p 11 32)) u,
-      both-right (every exactByte (packetBytes p 3 8)) (every oddByte (packetBytes p 11 32)) u,
+      both-left (every exactByte (controlBytes p)) (every oddByte (headerTextBytes p)) u,
+      both-right (every exactByte (controlBytes p)) (every oddByte (headerTextBytes p)) u,
     )
 
 header-damage : (d row : ℕ) (p q : List ℕ) → row ≡ 0 → T (rowDamage d row p q)
-    → T (everyPair (near d) (packetBytes p 3 8) (packetBytes q 3 8)) × T (everyPair noneOrOdd (packetBytes p 11 32) (packetBytes q 11 32))
+    → T (everyPair (near d) (controlBytes p) (controlBytes q)) × T (everyPair noneOrOdd (headerTextBytes p) (headerTextBytes q))
 unfolding rowDamage
 header-damage d row p q e t =
     let u = rw (eq-eqb row 0 e) at t in (
-      both-left (everyPair (near d) (packetBytes p 3 8) (packetBytes q 3 8)) (everyPair noneOrOdd (packetBytes p 11 32) (packetBytes q 11 32)) u,
-      both-right (everyPair (near d) (packetBytes p 3 8) (packetBytes q 3 8)) (everyPair noneOrOdd (packetBytes p 11 32) (packetBytes q 11 32)) u,
+      both-left (everyPair (near d) (controlBytes p) (controlBytes q)) (everyPair noneOrOdd (headerTextBytes p) (headerTextBytes q)) u,
+      both-right (everyPair (near d) (controlBytes p) (controlBytes q)) (everyPair noneOrOdd (headerTextBytes p) (headerTextBytes q)) u,
     )
 
 module _ (d : ℕ) (s r : List ℕ) (sent : T (sentByRules s)) (damaged : T (damage d s r)) (isHeader : sentRow s ≡ 0) where
-  control-fits : (p : List ℕ) → length p ≡ 42 → 2 + 8 ≤ length p
+  control-fits : (p : List ℕ) → length p ≡ packetLength → 2 + 8 ≤ length p
   control-fits p e = omega arith
 
   sentMessages : List ℕ
-  sentMessages = map messageBits (packetBytes (linePacket s) 3 8)
+  sentMessages = map messageBits (controlBytes (linePacket s))
 
   eight-sent : 8 ≡ length sentMessages
   unfolding sentMessages
   eight-sent =
-      sym (length-map (packetBytes (linePacket s) 3 8) messageBits ∙ length-bytes (linePacket s) 3 8 (control-fits (linePacket s) (sent-packet s sent)))
+      sym (length-map (controlBytes (linePacket s)) messageBits ∙ length-bytes (linePacket s) 3 8 (control-fits (linePacket s) (sent-packet s sent)))
 
   sent-message : (k : ℕ) → k < 8 → getD sentMessages k 0 ≡ messageBits (turnedByte (getD (linePacket s) (2 + k) 0))
   unfolding sentMessages
   sent-message k h =
       let fits = control-fits (linePacket s) (sent-packet s sent) in
-      getD-map messageBits (packetBytes (linePacket s) 3 8) k 0 0 (rw (length-bytes (linePacket s) 3 8 fits) h)
+      getD-map messageBits (controlBytes (linePacket s)) k 0 0 (rw (length-bytes (linePacket s) 3 8 fits) h)
       ∙ ap messageBits (byte-at (linePacket s) 3 8 fits k h)
 
   control-byte : (k : ℕ) → k < 8
@@ -233,67 +240,67 @@ character-two sent received hs hr t damaged =
     (λ some-odd. inr (character-spoiled sent received hs hr t some-odd))
     (either (eqb (distance received sent) 0) (odd (distance received sent)) damaged)
 
-text-parts : (row : ℕ) (p : List ℕ) → 1 ≤ row → row ≤ lastRow → T (rowByRules row p) → T (every oddByte (packetBytes p 3 40))
+text-parts : (row : ℕ) (p : List ℕ) → 1 ≤ row → row ≤ lastRow → T (rowByRules row p) → T (every oddByte (columnBytes p))
 unfolding rowByRules
 text-parts row p low high t = rw (ne-eqb row 0 (λ e. omega arith), le-leb row lastRow high) at t
 
-text-damage : (d row : ℕ) (p q : List ℕ) → 1 ≤ row → row ≤ lastRow → T (rowDamage d row p q) → T (everyPair noneOrOdd (packetBytes p 3 40) (packetBytes q 3 40))
+text-damage : (d row : ℕ) (p q : List ℕ) → 1 ≤ row → row ≤ lastRow → T (rowDamage d row p q) → T (everyPair noneOrOdd (columnBytes p) (columnBytes q))
 unfolding rowDamage
 text-damage d row p q low high t = rw (ne-eqb row 0 (λ e. omega arith), le-leb row lastRow high) at t
 
 module _ (d : ℕ) (s r : List ℕ) (sent : T (sentByRules s)) (damaged : T (damage d s r)) where
-  columns-fit : (p : List ℕ) → length p ≡ 42 → 2 + 40 ≤ length p
+  columns-fit : (p : List ℕ) → length p ≡ packetLength → 2 + columns ≤ length p
   columns-fit p e = omega arith
 
-  column-of : (p : List ℕ) → length p ≡ 42 → (c : ℕ) → c < 40 → getD (packetBytes p 3 40) c 0 ≡ turnedByte (getD p (2 + c) 0)
-  column-of p e c h = byte-at p 3 40 (columns-fit p e) c h
+  column-of : (p : List ℕ) → length p ≡ packetLength → (c : ℕ) → c < columns → getD (columnBytes p) c 0 ≡ turnedByte (getD p (2 + c) 0)
+  column-of p e c h = byte-at p 3 columns (columns-fit p e) c h
 
-  pub sent-column : (c : ℕ) → c < 40 → getD (sentText s) c 0 ≡ getD (packetBytes (linePacket s) 3 40) c 0 % 128
+  pub sent-column : (c : ℕ) → c < columns → getD (sentText s) c 0 ≡ getD (columnBytes (linePacket s)) c 0 % 128
   unfolding sentText
   sent-column c h =
-      getD-map (λ (byte : ℕ). byte % 128) (packetBytes (linePacket s) 3 40) c 0 0
-      (rw (length-bytes (linePacket s) 3 40 (columns-fit (linePacket s) (sent-packet s sent))) h)
+      getD-map (λ (byte : ℕ). byte % 128) (columnBytes (linePacket s)) c 0 0
+      (rw (length-bytes (linePacket s) 3 columns (columns-fit (linePacket s) (sent-packet s sent))) h)
 
   -- a column that carries a character: its byte is odd as sent, and damaged in no bit or in an odd number
   abbrev pub Carries : ℕ → Type 0
   Carries c =
-      T (oddByte (getD (packetBytes (linePacket s) 3 40) c 0))
-      × T (noneOrOdd (getD (packetBytes (linePacket s) 3 40) c 0) (getD (packetBytes (linePacket r) 3 40) c 0))
+      T (oddByte (getD (columnBytes (linePacket s)) c 0))
+      × T (noneOrOdd (getD (columnBytes (linePacket s)) c 0) (getD (columnBytes (linePacket r)) c 0))
 
   -- in rows 1 to 23 every column does
-  pub text-carries : 1 ≤ sentRow s → sentRow s ≤ lastRow → (c : ℕ) → c < 40 → Carries c
+  pub text-carries : 1 ≤ sentRow s → sentRow s ≤ lastRow → (c : ℕ) → c < columns → Carries c
   text-carries low high c h =
       let ps = sent-packet s sent in
       let pr = received-packet d s r damaged in (
         rw (column-of (linePacket s) ps c h)
-            (each-byte (linePacket s) (linePacket r) 3 40 (columns-fit (linePacket s) ps) (columns-fit (linePacket r) pr) c h oddByte
+            (each-byte (linePacket s) (linePacket r) 3 columns (columns-fit (linePacket s) ps) (columns-fit (linePacket r) pr) c h oddByte
             (text-parts (sentRow s) (linePacket s) low high (sent-parts s sent .4))),
         rw (column-of (linePacket s) ps c h, column-of (linePacket r) pr c h)
-            (each-pair (linePacket s) (linePacket r) 3 40 (columns-fit (linePacket s) ps) (columns-fit (linePacket r) pr) c h noneOrOdd
+            (each-pair (linePacket s) (linePacket r) 3 columns (columns-fit (linePacket s) ps) (columns-fit (linePacket r) pr) c h noneOrOdd
             (text-damage d (sentRow s) (linePacket s) (linePacket r) low high (damage-parts d s r damaged .4))),
       )
 
   -- in row 0 those from column 8 on
-  pub header-carries : sentRow s ≡ 0 → (c : ℕ) → 8 ≤ c → c < 40 → Carries c
+  pub header-carries : sentRow s ≡ 0 → (c : ℕ) → headerColumn ≤ c → c < columns → Carries c
   header-carries e c low h =
       let ps = sent-packet s sent in
       let pr = received-packet d s r damaged in
-      let k : ℕ = c - 8 in
-      let below : k < 32 = omega arith in
-      let place : 10 + k ≡ 2 + c = omega arith in
-      let fits : (p : List ℕ) → length p ≡ 42 → 10 + 32 ≤ length p = λ p e. omega arith in (
+      let k : ℕ = c - headerColumn in
+      let below : k < columns - headerColumn = omega arith in
+      let place : (2 + headerColumn) + k ≡ 2 + c = omega arith in
+      let fits : (p : List ℕ) → length p ≡ packetLength → (2 + headerColumn) + (columns - headerColumn) ≤ length p = λ p e. omega arith in (
         rw (column-of (linePacket s) ps c h)
             (rw place at
-            (each-byte (linePacket s) (linePacket r) 11 32 (fits (linePacket s) ps) (fits (linePacket r) pr) k below oddByte
+            (each-byte (linePacket s) (linePacket r) (3 + headerColumn) (columns - headerColumn) (fits (linePacket s) ps) (fits (linePacket r) pr) k below oddByte
             (header-parts (sentRow s) (linePacket s) e (sent-parts s sent .4) .1))),
         rw (column-of (linePacket s) ps c h, column-of (linePacket r) pr c h)
             (rw place at
-            (each-pair (linePacket s) (linePacket r) 11 32 (fits (linePacket s) ps) (fits (linePacket r) pr) k below noneOrOdd
+            (each-pair (linePacket s) (linePacket r) (3 + headerColumn) (columns - headerColumn) (fits (linePacket s) ps) (fits (linePacket r) pr) k below noneOrOdd
             (header-damage d (sentRow s) (linePacket s) (linePacket r) e (damage-parts d s r damaged .4) .1))),
       )
 
   -- such a column is read as it was sent, or refused
-  pub column-two : (c : ℕ) → c < 40 → Carries c → AsSent (getD (sentText s) c 0) (character (getD (packetBytes (linePacket r) 3 40) c 0))
+  pub column-two : (c : ℕ) → c < columns → Carries c → AsSent (getD (sentText s) c 0) (character (getD (columnBytes (linePacket r)) c 0))
   column-two c h carries =
       let ps = sent-packet s sent in
       let pr = received-packet d s r damaged in
@@ -301,8 +308,8 @@ module _ (d : ℕ) (s r : List ℕ) (sent : T (sentByRules s)) (damaged : T (dam
       (character-two _ _ (rw (column-of (linePacket s) ps c h) (turned-small _)) (rw (column-of (linePacket r) pr c h) (turned-small _)) (carries .0) (carries .1))
 
   -- and as it was sent where no bit of it is wrong
-  pub column-kept : (c : ℕ) → c < 40 → Carries c → getD (packetBytes (linePacket r) 3 40) c 0 ≡ getD (packetBytes (linePacket s) 3 40) c 0
-      → character (getD (packetBytes (linePacket r) 3 40) c 0) ≡ some (getD (sentText s) c 0)
+  pub column-kept : (c : ℕ) → c < columns → Carries c → getD (columnBytes (linePacket r)) c 0 ≡ getD (columnBytes (linePacket s)) c 0
+      → character (getD (columnBytes (linePacket r)) c 0) ≡ some (getD (sentText s) c 0)
   unfolding oddByte
   column-kept c h carries e =
-      rw (sent-column c h, e) (character-odd (getD (packetBytes (linePacket s) 3 40) c 0) (carries .0))
+      rw (sent-column c h, e) (character-odd (getD (columnBytes (linePacket s)) c 0) (carries .0))

@@ -5,6 +5,7 @@ use denote.Ref.{now}
 use denote.Triple.Clauses.{Lasts, atExit}
 use denote.Triple.Entry.{Args, Res}
 use Rattle.laws.specs.Unique.{Unique}
+use Rattle.coding.proofs.Unique.{message-is}
 use Rattle.packet.proofs.Papers.{address-is, header-read-is, text-read-is}
 use Rattle.packet.proofs.Whole.{framed-is}
 use Rattle.packet.proofs.address_of as address-of
@@ -13,10 +14,15 @@ use Rattle.packet.proofs.framed_line as framed-line
 use Rattle.packet.proofs.framed_line.Reads as framed-line-reads
 use Rattle.packet.proofs.header_of as header-of
 use Rattle.packet.proofs.header_of.Reads as header-of-reads
+use Rattle.packet.proofs.message_at as message-at
+use Rattle.packet.proofs.message_at.Reads as message-at-reads
 use Rattle.packet.proofs.packet_of as packet-of
 use Rattle.packet.proofs.packet_of.Reads as packet-of-reads
 use Rattle.packet.proofs.text_of as text-of
 use Rattle.packet.proofs.text_of.Reads as text-of-reads
+
+pub message-at-unique : Unique message-at.ended message-at-reads.Post
+message-at-unique κs a r r′ ws ws′ p q = (message-is r r′ (p ∙ sym q), refl)
 
 pub framed-line-unique : Unique framed-line.ended framed-line-reads.Post
 framed-line-unique κs a r r′ ws ws′ p q = (framed-is r r′ (p ∙ sym q), refl)

@@ -11,8 +11,8 @@ use lib.ListN.{length, getD}
 use Rattle.laws.specs.Paper.{Paper}
 use Rattle.laws.proofs.Inverse.{told-apart}
 use Rattle.coding.specs.Bits.{framingPasses}
-use Rattle.packet.specs.Lines.{framed, framedPaper, packetBytes, packetOf, packetPart}
-use Rattle.packet.specs.Texts.{textOf}
+use Rattle.packet.specs.Lines.{framed, framedPaper, framingPlace, lineLength, packetLength, packetOf, packetPart}
+use Rattle.packet.specs.Texts.{columnBytes, textOf}
 use Rattle.packet.specs.declared.Framed.{Framed}
 use Rattle.packet.specs.declared.Framed.the-variants.{Packet, WrongLength, WrongFraming}
 use Rattle.packet.specs.declared.Text.{Text}
@@ -39,13 +39,13 @@ whole-if : (b framing : Bool) → cond b (cond framing Packet WrongFraming) Wron
 whole-if true framing e = refl
 whole-if false framing e = cc
 
-pub whole-line : (line : List ℕ) → framed line ≡ Packet → length line ≡ 45
+pub whole-line : (line : List ℕ) → framed line ≡ Packet → length line ≡ lineLength
 unfolding framed
-whole-line line e = eqb-true (length line) 45 (whole-if (eqb (length line) 45) (framingPasses (getD line 2 0)) e)
+whole-line line e = eqb-true (length line) lineLength (whole-if (eqb (length line) lineLength) (framingPasses (getD line framingPlace 0)) e)
 
 -- what an answer shows of the line
 module _ (line : List ℕ) (f : Framed) (answer : framedPaper f ≡ framedPaper (framed line)) where
-  pub answer-whole : f ≡ Packet → length line ≡ 45
+  pub answer-whole : f ≡ Packet → length line ≡ lineLength
   answer-whole e = whole-line line (sym (framed-is f (framed line) answer) ∙ e)
 
   pub answer-packet : (g : Framed) → f ≡ g → packetPart g line ≡ packetOf line
@@ -54,6 +54,6 @@ module _ (line : List ℕ) (f : Framed) (answer : framedPaper f ≡ framedPaper 
 
 -- ---- the columns
 
-pub whole-text : (packet : List ℕ) → length packet ≡ 42 → textOf packet ≡ record { answer = Read; bytes = packetBytes packet 3 40 }
+pub whole-text : (packet : List ℕ) → length packet ≡ packetLength → textOf packet ≡ record { answer = Read; bytes = columnBytes packet }
 unfolding textOf
 whole-text packet e = rw (eq-eqb _ _ e)

@@ -20,24 +20,17 @@ magazineOf first = cond (eqb (first % 8) 0) 8 (first % 8)
 unfoldable pub rowWeight1 : ℕ → ℕ
 rowWeight1 first = first / 8
 
--- row weights 2 to 16 are the second message's
-unfoldable pub rowWeights2to16 : ℕ → ℕ
-rowWeights2to16 second = 2 * second
-
+-- and row weights 2 to 16 are the second message's 1 to 8
 unfoldable pub rowOf : ℕ → ℕ → ℕ
-unfolding rowWeight1 rowWeights2to16
-rowOf first second = rowWeight1 first + rowWeights2to16 second
-
--- the last row that carries characters; rows past it are not stored
-abbrev pub lastRow : ℕ
-lastRow = 23
+unfolding rowWeight1
+rowOf first second = rowWeight1 first + 2 * second
 
 -- what the two messages show, where each is good or refused
 unfoldable pub shown : Option ℕ → Option ℕ → Address
-unfolding magazineOf rowOf rowWeight1 rowWeights2to16
+unfolding magazineOf rowOf rowWeight1
 shown (some first) (some second) = Whole (magazineOf first) (rowOf first second)
 shown (some first) none = First (magazineOf first) (rowWeight1 first)
-shown none (some second) = Second (rowWeights2to16 second)
+shown none (some second) = Second second
 shown none none = Unread
 
 unfoldable pub addressOf : List ℕ → Address
@@ -50,6 +43,6 @@ unfoldable pub addressPaper : Address → Paper
 unfolding accepted refusedBy
 addressPaper (Whole magazine row) = accepted (magazine ∷ row ∷ [])
 addressPaper (First magazine weight1) = record { number = none; values = magazine ∷ weight1 ∷ [] }
-addressPaper (Second weights) = record { number = none; values = weights ∷ [] }
+addressPaper (Second second) = record { number = none; values = second ∷ [] }
 addressPaper Unread = record { number = none; values = [] }
 addressPaper WrongLength = refusedBy 10 []

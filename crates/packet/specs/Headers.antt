@@ -3,12 +3,11 @@
 use mathlib.Core.Bool.{cond}
 use mathlib.Core.List.{List, [], _∷_, _++_, map}
 use mathlib.Core.Option.{Option, none, some}
-use Prim.Native.Nat.{ℕ, _%_}
+use Prim.Native.Nat.{ℕ, _-_, _/_, _%_, _^_}
 use lib.Dec.{eqb}
 use lib.ListN.{length, getD}
-use Rattle.laws.specs.Digits.{binary}
+use Rattle.laws.specs.Digits.{binary, bit}
 use Rattle.laws.specs.Paper.{Paper, accepted, refusedBy, unnumbered}
-use Rattle.coding.specs.Bits.{bit}
 use Rattle.coding.specs.Hamming.{message}
 use Rattle.packet.specs.Lines.{packetBytes, packetLength}
 use Rattle.packet.specs.declared.Header.{Header}
@@ -41,6 +40,10 @@ headerFrom messages =
       control = controlOf (getD messages 3 0) (getD messages 5 0) (getD messages 6 0) (getD messages 7 0);
     }
 
+-- one of C4 to C14, by its number
+unfoldable pub controlBit : Header → ℕ → ℕ
+controlBit header n = header .control / 2 ^ (14 - n) % 2
+
 -- the zero of a header
 unfoldable pub zeroHeader : Header
 zeroHeader =
@@ -66,9 +69,12 @@ allGood (none ∷ others) = none
 allGood (some message ∷ others) = before message (allGood others)
 
 -- packet bytes 3 to 10
+abbrev pub controlBytes : List ℕ → List ℕ
+controlBytes packet = packetBytes packet 3 8
+
 unfoldable pub headerMessages : List ℕ → List (Option ℕ)
 unfolding message packetBytes
-headerMessages packet = map message (packetBytes packet 3 8)
+headerMessages packet = map message (controlBytes packet)
 
 -- spoiled where one of the eight is refused
 unfoldable pub headerOr : Option (List ℕ) → HeaderRead

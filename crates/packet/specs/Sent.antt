@@ -10,10 +10,11 @@ use lib.ListN.{length, getD, take, drop}
 use Rattle.laws.specs.Every.{every, everyPair}
 use Rattle.coding.specs.Bits.{framingCode, odd, distance}
 use Rattle.coding.specs.Hamming.{testsOf, exact, messageBits}
-use Rattle.packet.specs.Addresses.{magazineOf, rowOf, lastRow}
-use Rattle.packet.specs.Headers.{headerFrom}
+use Rattle.packet.specs.Addresses.{magazineOf, rowOf}
+use Rattle.packet.specs.Headers.{controlBytes, headerFrom}
 use Rattle.packet.specs.Lines.{lineLength, packetLength, packetPlace, framingPlace, packetByte, packetBytes}
-use Rattle.packet.specs.Texts.{columns}
+use Rattle.grid.specs.Grid.{columns, lastRow}
+use Rattle.packet.specs.Texts.{columnBytes, headerTextBytes}
 use Rattle.packet.specs.declared.Header.{Header}
 
 -- the packet of a line, whatever its framing code
@@ -41,12 +42,12 @@ sentRow line = rowOf (sentFirst line) (sentSecond line)
 -- the numbers of a row 0
 unfoldable pub sentHeader : List ℕ → Header
 unfolding headerFrom messageBits packetBytes linePacket
-sentHeader line = headerFrom (map messageBits (packetBytes (linePacket line) 3 8))
+sentHeader line = headerFrom (map messageBits (controlBytes (linePacket line)))
 
 -- the characters of the columns
 unfoldable pub sentText : List ℕ → List ℕ
 unfolding packetBytes linePacket
-sentText line = map (λ byte. byte % 128) (packetBytes (linePacket line) 3 columns)
+sentText line = map (λ byte. byte % 128) (columnBytes (linePacket line))
 
 -- ---- sent by the rules
 
@@ -65,8 +66,8 @@ oddByte byte = odd (ones byte)
 unfoldable pub rowByRules : ℕ → List ℕ → Bool
 unfolding every exactByte oddByte packetBytes
 rowByRules row packet =
-    cond (eqb row 0) (every exactByte (packetBytes packet 3 8) && every oddByte (packetBytes packet 11 32))
-    (cond (leb row lastRow) (every oddByte (packetBytes packet 3 columns)) true)
+    cond (eqb row 0) (every exactByte (controlBytes packet) && every oddByte (headerTextBytes packet))
+    (cond (leb row lastRow) (every oddByte (columnBytes packet)) true)
 
 unfoldable pub sentByRules : List ℕ → Bool
 unfolding every isByte exactByte packetBytes linePacket rowByRules sentRow
@@ -92,9 +93,9 @@ unfoldable pub rowDamage : ℕ → ℕ → List ℕ → List ℕ → Bool
 unfolding everyPair near noneOrOdd packetBytes
 rowDamage d row sent received =
     cond (eqb row 0)
-    (everyPair (near d) (packetBytes sent 3 8) (packetBytes received 3 8)
-    && everyPair noneOrOdd (packetBytes sent 11 32) (packetBytes received 11 32))
-    (cond (leb row lastRow) (everyPair noneOrOdd (packetBytes sent 3 columns) (packetBytes received 3 columns)) true)
+    (everyPair (near d) (controlBytes sent) (controlBytes received)
+    && everyPair noneOrOdd (headerTextBytes sent) (headerTextBytes received))
+    (cond (leb row lastRow) (everyPair noneOrOdd (columnBytes sent) (columnBytes received)) true)
 
 -- at most one wrong bit in the framing code, at most d in each Hamming byte, and none or an odd number in each character byte
 unfoldable pub damage : ℕ → List ℕ → List ℕ → Bool

@@ -5,19 +5,25 @@ ghost use mathlib.Core.List.{_∷_, []};
 ghost use lib.ListN.{length};
 ghost use Rattle.laws.specs.Digits.{binary};
 ghost use Rattle.coding.specs.Bits.{turnedByte};
-ghost use Rattle.coding.specs.Hamming.{message};
+ghost use Rattle.laws.specs.Paper.{oneOrNone};
+ghost use Rattle.coding.specs.Hamming.{message, messagePaper};
+ghost use Rattle.coding.specs.Heard.{messageHeard};
 ghost use Rattle.coding.proofs.Hamming.{Small};
 ghost use Rattle.packet.specs.Addresses.{addressOf, addressPaper, magazineOf, shown};
 ghost use Rattle.packet.specs.Headers.{allGood, controlOf, headerMessages, headerOf, headerPaper, lowestFirst};
 ghost use Rattle.packet.specs.Lines.{framed, framedPaper, packetLength, packetOf};
-ghost use Rattle.packet.specs.Private.{eightOf, heard};
+ghost use Rattle.packet.specs.Private.{eightOf};
 ghost use Rattle.packet.specs.Texts.{textOf, textPaper};
 use coding::Message;
+use grid::COLUMNS;
 
 // Bytes of a data-line, and of its packet.
 pub const LINE_LENGTH: usize = 45;
 
 pub const PACKET_LENGTH: usize = 42;
+
+// The columns 0 to 7 of row 0 have no character.
+pub const HEADER_COLUMN: usize = 8;
 
 // What a data-line is: one with a packet, or refused.
 pub enum Framed {
@@ -31,8 +37,8 @@ pub enum Address {
     Whole { magazine: u8, row: u8 },
     // The second message is refused: of the row only weight 1 is known.
     First { magazine: u8, weight1: u8 },
-    // The first message is refused: of the row only weights 2 to 16 are known.
-    Second { weights: u8 },
+    // The first message is refused: of the row only weights 2 to 16 are known, which are the second message.
+    Second { second: u8 },
     Unread,
     WrongLength,
 }
@@ -47,6 +53,17 @@ pub struct Header {
     pub minutes_units: u8,
     pub control: u16,
 }
+
+// The zero of a header.
+pub const ZERO_HEADER: Header = Header {
+    tens: 0,
+    units: 0,
+    hours_tens: 0,
+    hours_units: 0,
+    minutes_tens: 0,
+    minutes_units: 0,
+    control: 0,
+};
 
 // What the eight messages of a row 0 give.
 pub enum HeaderRead {
@@ -63,7 +80,7 @@ pub enum TextRead {
 // The bytes of the forty columns, turned. In row 0 columns 0 to 7 hold the header's messages.
 pub struct Text {
     pub answer: TextRead,
-    pub bytes: [u8; 40],
+    pub bytes: [u8; COLUMNS],
 }
 
 // A header's eight messages in the order in which they are sent, where all of them are good.
@@ -91,15 +108,15 @@ pub fn packet_of(line: &[u8]) -> &[u8]
     ensures { λ r. ⌜ now r ≡ packetOf (now (line .entry)) ⌝ }
 {
     match framed_line(line) {
-        Framed::Packet => &line[3..45],
+        Framed::Packet => &line[3..LINE_LENGTH],
         Framed::WrongLength => &line[0..0],
         Framed::WrongFraming => &line[0..0],
     }
 }
 
 // The message of a byte as it stands in a packet.
-fn message_at(byte: u8) -> Message
-    ensures { λ r. ⌜ heard r ≡ message (turnedByte byte) ⌝ }
+pub fn message_at(byte: u8) -> Message
+    ensures { λ r. ⌜ messagePaper r ≡ oneOrNone (message (turnedByte byte)) ⌝ }
 {
     coding::message_of(coding::turned(byte))
 }
@@ -113,8 +130,8 @@ fn magazine_of(first: u8) -> u8
 
 // What two messages show of an address.
 fn shown_by(one: Message, two: Message) -> Address
-    requires { ⌜ Small (heard one) × Small (heard two) ⌝ }
-    ensures { λ r. ⌜ r ≡ shown (heard one) (heard two) ⌝ }
+    requires { ⌜ Small (messageHeard one) × Small (messageHeard two) ⌝ }
+    ensures { λ r. ⌜ r ≡ shown (messageHeard one) (messageHeard two) ⌝ }
 {
     match one {
         Message::Good(first) => match two {
@@ -128,9 +145,7 @@ fn shown_by(one: Message, two: Message) -> Address
             },
         },
         Message::Refused => match two {
-            Message::Good(second) => Address::Second {
-                weights: 2 * second,
-            },
+            Message::Good(second) => Address::Second { second },
             Message::Refused => Address::Unread,
         },
     }
@@ -215,7 +230,7 @@ pub fn header_of(packet: &[u8]) -> HeaderRead
 pub fn text_of(packet: &[u8]) -> Text
     ensures { λ r. ⌜ (textPaper (r .answer) ≡ textPaper (textOf (now (packet .entry)) .answer)) × (r .bytes ≡ textOf (now (packet .entry)) .bytes) ⌝ }
 {
-    let mut bytes = [0u8; 40];
+    let mut bytes = [0u8; COLUMNS];
     if packet.len() != PACKET_LENGTH {
         return Text {
             answer: TextRead::WrongLength,
@@ -223,7 +238,7 @@ pub fn text_of(packet: &[u8]) -> Text
         };
     }
     let mut column = 0;
-    while column < 40 {
+    while column < COLUMNS {
         bytes[column] = coding::turned(packet[2 + column]);
         column += 1;
     }

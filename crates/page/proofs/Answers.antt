@@ -1,10 +1,11 @@
 -- The writer's answer, from what the tests on its parts showed.
-use mathlib.Core.Path.{_≡_, refl}
-use mathlib.Core.Bool.{Bool, true, false, cond}
+use mathlib.Core.Path.{_≡_, refl, _∙_, ap, sym}
+use mathlib.Core.Bool.{Bool, true, false, cond, _&&_, and-assoc}
 use Prim.Native.Nat.{ℕ}
 use Rattle.packet.specs.declared.Header.{Header}
-use Rattle.page.specs.Lawful.{magazineFits, headerFits, cellsFit, digitsLawful, cellsLawful, cellsChecked}
-use Rattle.page.specs.Private.{partsAnswer}
+use Rattle.page.specs.Lawful.{cellsChecked, cellsFit, cellsLawful, digitsLawful, headerFits, magazineFits, pageFits}
+use Rattle.page.specs.Private.{byDigits, partsAnswer}
+use Rattle.page.specs.Records.{pageOf}
 use Rattle.page.specs.declared.Cells.{Cells}
 use Rattle.page.specs.declared.CellsCheck.{CellsCheck}
 use Rattle.page.specs.declared.CellsCheck.the-variants as check
@@ -14,8 +15,8 @@ use Rattle.page.specs.declared.WriteAnswer.the-variants.{Written, TooLar
 -- the answer of a page whose other parts fit, from the check of its cells and of its digits
 abbrev pub answerBy : CellsCheck → Bool → WriteAnswer
 answerBy check.TooLarge digits = TooLarge
-answerBy check.Unlawful digits = cond digits UnlawfulCells BadDigit
-answerBy check.Lawful digits = cond digits Written BadDigit
+answerBy check.Unlawful digits = byDigits digits UnlawfulCells
+answerBy check.Lawful digits = byDigits digits Written
 
 by-cases : (fit lawful digits : Bool)
     → cond fit (cond digits (cond lawful Written UnlawfulCells) BadDigit) TooLarge ≡ answerBy (cond fit (cond lawful check.Lawful check.Unlawful) check.TooLarge) digits
@@ -24,15 +25,19 @@ by-cases true false digits = refl
 by-cases false lawful digits = refl
 
 module _ (magazine : ℕ) (header : Header) (cells : Cells) where
-  pub large-magazine : magazineFits magazine ≡ false → partsAnswer magazine header cells ≡ TooLarge
-  unfolding partsAnswer
-  large-magazine e = rw e
+  -- the magazine and the header, which are asked first
+  abbrev headFits : Bool
+  headFits = magazineFits magazine && headerFits header
 
-  pub large-header : headerFits header ≡ false → magazineFits magazine ≡ true → partsAnswer magazine header cells ≡ TooLarge
-  unfolding partsAnswer
-  large-header f e = rw (e, f)
+  page-fits : (fits : Bool) → headFits ≡ fits → pageFits (pageOf magazine header false cells) ≡ (fits && cellsFit cells)
+  unfolding pageFits
+  page-fits fits e = sym (and-assoc (magazineFits magazine) (headerFits header) (cellsFit cells)) ∙ ap (λ (b : Bool). b && cellsFit cells) e
 
-  pub by-check : magazineFits magazine ≡ true → headerFits header ≡ true → {answer : CellsCheck} → answer ≡ cellsChecked cells
-      → {digits : Bool} → digits ≡ digitsLawful header → partsAnswer magazine header cells ≡ answerBy answer digits
+  pub large-head : headFits ≡ false → partsAnswer magazine header cells ≡ TooLarge
+  unfolding partsAnswer
+  large-head e = rw (page-fits false e)
+
+  pub by-check : headFits ≡ true → {answer : CellsCheck} → answer ≡ cellsChecked cells → {digits : Bool} → digits ≡ digitsLawful header
+      → partsAnswer magazine header cells ≡ answerBy answer digits
   unfolding partsAnswer cellsChecked
-  by-check e f a d = rw (e, f, a, d) (by-cases (cellsFit cells) (cellsLawful cells) (digitsLawful header))
+  by-check e a d = rw (page-fits true e, a, d) (by-cases (cellsFit cells) (cellsLawful cells) (digitsLawful header))

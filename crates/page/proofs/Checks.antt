@@ -1,8 +1,8 @@
 -- The checks of 24 and 23 cell by cell, and what each answer shows.
 use mathlib.Core.Path.{_≡_, refl, _∙_, sym, subst}
-use mathlib.Core.Bool.{Bool, true, false, not, cond, _&&_, _||_, Bool·not-not, and-comm, and-true, or-assoc, or-false}
+use mathlib.Core.Bool.{Bool, true, false, not, cond, _&&_, _||_, Bool·not-not, and-comm, and-true}
 use mathlib.Core.List.{List, [], _∷_}
-use Prim.Native.Nat.{ℕ, zero, suc, _+_, _^_, _<_, _≤_}
+use Prim.Native.Nat.{ℕ, zero, suc, _+_, _-_, _^_, _<_, _≤_}
 use native.Mathlib.Nat.{le-trans}
 use native.Mathlib.Numerals.{add-one}
 use native.Mathlib.Omega.{arith}
@@ -14,9 +14,11 @@ use lib.Seq.{drop-cons}
 use Rattle.laws.specs.Every.{every, everyPair}
 use Rattle.laws.specs.Fields.{fits}
 use Rattle.laws.proofs.Bools.{both-left, both-right}
+use Rattle.laws.proofs.Every.{every-more}
 use Rattle.laws.proofs.Opposite.{not-and, below-is}
-use Rattle.laws.proofs.Runs.{part-is}
-use Rattle.page.specs.Lawful.{cellLawful, cellsChecked, cellsFit, cellsLawful, isNever}
+use Rattle.packet.specs.Texts.{headerColumn}
+use Rattle.packing.specs.Cells.{characterWidth, markWidth}
+use Rattle.page.specs.Lawful.{cellLawful, cellsChecked, cellsFit, cellsLawful, highestMark, isNever, never, space}
 use Rattle.page.specs.Records.{cellsOf}
 use Rattle.page.specs.declared.Cells.{Cells}
 use Rattle.page.specs.declared.CellsCheck.{CellsCheck}
@@ -24,40 +26,55 @@ use Rattle.page.specs.declared.CellsCheck.the-variants.{Lawful, TooLarge
 
 -- ---- the columns 0 to 7 of row 0
 
-pub header-columns : (marks : List ℕ) → 8 ≤ length marks
-    → ((((((((not (eqb (getD marks 0 0) 0) || not (eqb (getD marks 1 0) 0)) || not (eqb (getD marks 2 0) 0)) || not (eqb (getD marks 3 0) 0))
-    || not (eqb (getD marks 4 0) 0)) || not (eqb (getD marks 5 0) 0)) || not (eqb (getD marks 6 0) 0)) || not (eqb (getD marks 7 0) 0)))
-    ≡ not (every isNever (take 8 marks))
-unfolding every isNever
-header-columns marks h = simp (or-assoc, not-and, or-false, ← part-is marks 0 8 h)
+-- one column more
+pub marked-more : (marks : List ℕ) (column : ℕ) → column < length marks
+    → (not (every isNever (take column marks)) || not (eqb (getD marks column 0) never)) ≡ not (every isNever (take (column + 1) marks))
+unfolding isNever
+marked-more marks column h =
+    rw (add-one column, every-more isNever marks column 0 h) (sym (not-and (every isNever (take column marks)) (eqb (getD marks column 0) never)))
 
--- ---- marks that fit their bits: 3 alone is unlawful
+-- ---- marks that fit their bits: one alone is unlawful
+
+abbrev pub unlawfulMark : ℕ
+unlawfulMark = suc highestMark
 
 abbrev pub cellSound : ℕ → ℕ → Bool
-cellSound mark character = not (eqb mark 3) && (not (eqb mark 0) || eqb character 32)
+cellSound mark character = not (eqb mark unlawfulMark) && (not (eqb mark never) || eqb character space)
 
 abbrev pub cellsSound : Cells → Bool
-cellsSound cells = everyPair cellSound (cells .marks) (cells .characters) && every isNever (take 8 (cells .marks))
+cellsSound cells = everyPair cellSound (cells .marks) (cells .characters) && every isNever (take headerColumn (cells .marks))
 
-mark-sound : (mark : ℕ) → T (ltb mark 4) → not (eqb mark 3) ≡ leb mark 2
+-- the largest number that fits so many bits
+abbrev pub largest : ℕ → ℕ
+largest width = 2 ^ width - 1
+
+-- whether the gathered bits show a cell that is too large
+abbrev pub large : ℕ → ℕ → Bool
+large character-bits mark-bits = ltb (largest characterWidth) character-bits || ltb (largest markWidth) mark-bits
+
+mark-sound : (mark : ℕ) → T (fits markWidth mark) → not (eqb mark unlawfulMark) ≡ leb mark highestMark
+unfolding fits
 mark-sound zero t = refl
 mark-sound (suc zero) t = refl
 mark-sound (suc (suc zero)) t = refl
 mark-sound (suc (suc (suc zero))) t = refl
 mark-sound (suc (suc (suc (suc mark)))) t = absurd (let h = ltb→lt (suc (suc (suc (suc mark)))) 4 t in omega arith)
 
-each-sound : (marks characters : List ℕ) → T (every (fits 2) marks) → everyPair cellSound marks characters ≡ everyPair cellLawful marks characters
+each-sound : (marks characters : List ℕ) → T (every (fits markWidth) marks) → everyPair cellSound marks characters ≡ everyPair cellLawful marks characters
 unfolding everyPair every fits cellLawful
 each-sound [] [] t = refl
 each-sound [] (x ∷ xs) t = refl
 each-sound (m ∷ ms) [] t = refl
 each-sound (m ∷ ms) (x ∷ xs) t =
-    rw (mark-sound m (both-left (ltb m 4) (every (fits 2) ms) t), each-sound ms xs (both-right (ltb m 4) (every (fits 2) ms) t))
+    let others = every (fits markWidth) ms in
+    rw (mark-sound m (both-left (fits markWidth m) others t), each-sound ms xs (both-right (fits markWidth m) others t))
 
 pub sound-lawful : (cells : Cells) → cellsFit cells ≡ true → cellsSound cells ≡ cellsLawful cells
 unfolding cellsFit cellsLawful
 sound-lawful cells e =
-    rw (each-sound (cells .marks) (cells .characters) (both-left (every (fits 2) (cells .marks)) (every (fits 7) (cells .characters)) (subst T (sym e) tt)))
+    let marks = every (fits markWidth) (cells .marks) in
+    let characters = every (fits characterWidth) (cells .characters) in
+    rw (each-sound (cells .marks) (cells .characters) (both-left marks characters (subst T (sym e) tt)))
 
 -- ---- one cell more
 
@@ -95,38 +112,43 @@ lawful-cases false false true false r = refl
 lawful-cases false false false s r = refl
 
 module _ (characters marks : List ℕ) (at : ℕ) (c : at < length characters) (m : at < length marks) where
-  pub fit-more : (character-bits mark-bits : ℕ) → (not (ltb 127 character-bits || ltb 3 mark-bits) && cellsFit (cellsOf (drop at characters) (drop at marks)))
-      ≡ (not (ltb 127 (bitOr character-bits (getD characters at 0)) || ltb 3 (bitOr mark-bits (getD marks at 0)))
-      && cellsFit (cellsOf (drop (at + 1) characters) (drop (at + 1) marks)))
+  abbrev character : ℕ
+  character = getD characters at 0
+
+  abbrev mark : ℕ
+  mark = getD marks at 0
+
+  pub fit-more : (character-bits mark-bits : ℕ) → (not (large character-bits mark-bits) && cellsFit (cellsOf (drop at characters) (drop at marks)))
+      ≡ (not (large (bitOr character-bits character) (bitOr mark-bits mark)) && cellsFit (cellsOf (drop (at + 1) characters) (drop (at + 1) marks)))
   unfolding cellsFit every fits
   fit-more character-bits mark-bits =
       rw (
         add-one at,
         drop-cons characters at 0 c,
         drop-cons marks at 0 m,
-        below-is (getD marks at 0) 4,
-        below-is (getD characters at 0) 128,
-        or-reaches 7 character-bits (getD characters at 0),
-        or-reaches 2 mark-bits (getD marks at 0),
+        below-is mark (2 ^ markWidth),
+        below-is character (2 ^ characterWidth),
+        or-reaches characterWidth character-bits character,
+        or-reaches markWidth mark-bits mark,
       )
-      (fit-cases (ltb 3 mark-bits) (ltb 127 character-bits) (ltb 3 (getD marks at 0)) (ltb 127 (getD characters at 0)) (every (fits 2) (drop (suc at) marks))
-      (every (fits 7) (drop (suc at) characters)))
+      (fit-cases (ltb (largest markWidth) mark-bits) (ltb (largest characterWidth) character-bits) (ltb (largest markWidth) mark)
+      (ltb (largest characterWidth) character) (every (fits markWidth) (drop (suc at) marks)) (every (fits characterWidth) (drop (suc at) characters)))
 
   pub sound-more : (unlawful : Bool) → (not unlawful && everyPair cellSound (drop at marks) (drop at characters))
-      ≡ (not ((unlawful || eqb (getD marks at 0) 3) || (eqb (getD marks at 0) 0 && not (eqb (getD characters at 0) 32)))
+      ≡ (not ((unlawful || eqb mark unlawfulMark) || (eqb mark never && not (eqb character space)))
       && everyPair cellSound (drop (at + 1) marks) (drop (at + 1) characters))
   unfolding everyPair
   sound-more unlawful =
       rw (add-one at, drop-cons characters at 0 c, drop-cons marks at 0 m)
-      (lawful-cases unlawful (eqb (getD marks at 0) 3) (eqb (getD marks at 0) 0) (eqb (getD characters at 0) 32)
+      (lawful-cases unlawful (eqb mark unlawfulMark) (eqb mark never) (eqb character space)
       (everyPair cellSound (drop (suc at) marks) (drop (suc at) characters)))
 
 -- ---- none asked yet, and all asked
 
-pub sound-first : (characters marks : List ℕ) (marked : Bool) → marked ≡ not (every isNever (take 8 marks))
+pub sound-first : (characters marks : List ℕ) (marked : Bool) → marked ≡ not (every isNever (take headerColumn marks))
     → (not marked && everyPair cellSound marks characters) ≡ cellsSound (cellsOf characters marks)
 sound-first characters marks marked e =
-    rw (e, Bool·not-not (every isNever (take 8 marks))) (and-comm (every isNever (take 8 marks)) (everyPair cellSound marks characters))
+    rw (e, Bool·not-not (every isNever (take headerColumn marks))) (and-comm (every isNever (take headerColumn marks)) (everyPair cellSound marks characters))
 
 module _ (characters marks : List ℕ) (at : ℕ) (c : length characters ≤ at) (m : length marks ≤ at) where
   pub fit-last : (large rest : Bool) → (not large && cellsFit (cellsOf (drop at characters) (drop at marks))) ≡ rest → rest ≡ not large

@@ -1,21 +1,26 @@
 -- The five bytes before the cells: each byte of the values, and each value of the bytes, worked out.
 use mathlib.Core.Path.{_≡_, refl, _∙_, ap, sym}
 use mathlib.Core.Bool.{Bool, true, false, cond}
-use mathlib.Core.List.{List, [], _∷_, _++_}
-use Prim.Native.Nat.{ℕ, _+_, _*_, _/_, _%_, _<_}
+use mathlib.Core.List.{List, [], _∷_, _++_, append-nil}
+use Prim.Native.Nat.{ℕ, _+_, _*_, _/_, _%_, _^_, _<_, _≤_}
 use native.Mathlib.Nat.{add-zero, div-div-eq-div-mul, mod-mod}
 use native.Mathlib.Omega.{arith}
 use mir.Val.{boolByte}
 use lib.Dec.{eqb}
-use lib.ListN.{length, getD}
-use Rattle.laws.specs.Fields.{digits, fieldsBits, fieldsOf, bytesOf, bitsOf}
-use Rattle.laws.proofs.Digits.{binary-digits, two-runs, three-runs}
-use Rattle.laws.proofs.Tabulated.{tabulated, cons-is}
+use lib.ListN.{length, take, drop, take-append-drop}
+use lib.Seq.{length-take-le, take-take}
+use Rattle.laws.specs.Digits.{binary}
+use Rattle.laws.specs.Fields.{bitsOf, bytesOf, digits, fieldsBits, fieldsOf, total}
+use Rattle.laws.proofs.Digits.{binary-digits, digits-binary, three-runs}
+use Rattle.laws.proofs.Fields.{bits-of-bits, bits-of-bytes-append, fields-of-append, length-bits-of}
+use Rattle.laws.proofs.Tabulated.{cons-is}
+use Rattle.laws.proofs.Words.{fields-cut}
 use Rattle.packet.specs.Headers.{headerValues}
 use Rattle.packet.specs.declared.Header.{Header}
+use Rattle.packing.specs.Cells.{groupCells}
 use Rattle.page.specs.Private.{headBytes, headFields, headFrom}
-use Rattle.page.specs.Records.{headValues, headWidths, magazineFrom, magazineValue}
-use Rattle.page.specs.declared.Head.{Head}
+use Rattle.page.specs.Records.{headLength, headValues, headWidths, magazineFrom, magazineValue}
+use Rattle.page.specs.declared.reading.Head.{Head}
 
 module _ (g t u ht hu mt mu co cl z : ℕ) where
   -- the values' bits, cut where a byte ends
@@ -36,7 +41,7 @@ module _ (g t u ht hu mt mu co cl z : ℕ) where
       ∷ co / 8 % 256
       ∷ (co % 8 * 32 + cl % 2 * 16 + z % 16)
       ∷ [])
-      (bytesOf 5 cut)
+      (bytesOf headLength cut)
   unfolding cut digits bytesOf fieldsOf
   bytes-of-cut =
       cons-is (sym (three-runs 3 4 1 g t (u / 8)))
@@ -65,60 +70,44 @@ five-bytes magazine h clean =
     cons-is (ap (λ (n : ℕ). n * 32 + h .tens % 16 * 2 + h .units / 8 % 2) (sym (mod-mod magazine 8)))
     (cons-is refl (cons-is refl (cons-is refl (cons-is (clean-bit clean (h .control % 8 * 32)) refl))))
     ∙ (bytes-of-cut (magazine % 8) (h .tens) (h .units) (h .«hours_tens») (h .«hours_units») (h .«minutes_tens») (h .«minutes_units») (h .control) (cond clean 1 0) 0
-    ∙ ap (bytesOf 5)
+    ∙ ap (bytesOf headLength)
     (sym (cut-is (magazine % 8) (h .tens) (h .units) (h .«hours_tens») (h .«hours_units») (h .«minutes_tens») (h .«minutes_units») (h .control) (cond clean 1 0) 0)))
 
 -- ---- and back
 
-module _ (b0 b1 b2 b3 b4 : ℕ) where
-  values-cut : List ℕ
-  values-cut =
-      digits 3 (b0 / 32) ++ (digits 4 (b0 / 2) ++ ((digits 1 b0 ++ digits 3 (b1 / 32))
-      ++ (digits 2 (b1 / 8) ++ ((digits 3 b1 ++ digits 1 (b2 / 128))
-      ++ (digits 3 (b2 / 16) ++ (digits 4 b2 ++ ((digits 8 b3 ++ digits 3 (b4 / 32)) ++ (digits 1 (b4 / 16) ++ digits 4 b4))))))))
+-- a record's first eight bytes, as one word: the head's bits are its first
+pub values-of-word : (bytes : List ℕ) → groupCells ≤ length bytes
+    → fieldsOf headWidths (digits 64 (binary (bitsOf (take groupCells bytes)))) ≡ headFields (take headLength bytes)
+unfolding headFields total fieldsOf
+values-of-word bytes h =
+    let eight = take groupCells bytes in
+    let five : take headLength eight ≡ take headLength bytes = take-take headLength groupCells bytes (omega arith) in
+    let bits : digits 64 (binary (bitsOf eight)) ≡ bitsOf eight =
+    ap (λ (n : ℕ). digits n (binary (bitsOf eight))) (sym (length-bits-of eight ∙ ap (λ (k : ℕ). 8 * k) (length-take-le groupCells bytes h)))
+    ∙ digits-binary (bitsOf eight) (bits-of-bits eight) in
+    let parted : bitsOf eight ≡ bitsOf (take headLength eight) ++ bitsOf (drop headLength eight) =
+    ap bitsOf (sym (take-append-drop headLength eight)) ∙ bits-of-bytes-append (take headLength eight) (drop headLength eight) in
+    let long = length-bits-of (take headLength eight) ∙ ap (λ (k : ℕ). 8 * k) (ap length five ∙ length-take-le headLength bytes (omega arith)) in
+    ap (fieldsOf headWidths) (bits ∙ parted)
+    ∙ (fields-of-append headWidths [] (bitsOf (take headLength eight)) (bitsOf (drop headLength eight)) long
+    ∙ (append-nil (fieldsOf headWidths (bitsOf (take headLength eight))) ∙ ap (λ (xs : List ℕ). fieldsOf headWidths (bitsOf xs)) five))
 
-  values-cut-is : bitsOf (b0 ∷ b1 ∷ b2 ∷ b3 ∷ b4 ∷ []) ≡ values-cut
-  unfolding values-cut bitsOf digits fieldsBits
-  values-cut-is = simp div-div-eq-div-mul
-
-  values-of-cut : _≡_ {A = List ℕ} (fieldsOf headWidths values-cut)
-      (b0 / 32 % 8 ∷ b0 / 2 % 16 ∷ (b0 % 2 * 8 + b1 / 32 % 8) ∷ b1 / 8 % 4 ∷ (b1 % 8 * 2 + b2 / 128 % 2)
-      ∷ b2 / 16 % 8 ∷ b2 % 16 ∷ (b3 % 256 * 8 + b4 / 32 % 8) ∷ b4 / 16 % 2 ∷ b4 % 16 ∷ [])
-  unfolding values-cut digits fieldsOf
-  values-of-cut =
-      cons-is (binary-digits 3 (b0 / 32)) (cons-is (binary-digits 4 (b0 / 2)) (cons-is (two-runs 1 3 b0 (b1 / 32))
-      (cons-is (binary-digits 2 (b1 / 8)) (cons-is (two-runs 3 1 b1 (b2 / 128))
-      (cons-is (binary-digits 3 (b2 / 16)) (cons-is (binary-digits 4 b2)
-      (cons-is (two-runs 8 3 b3 (b4 / 32)) (cons-is (binary-digits 1 (b4 / 16)) (cons-is (binary-digits 4 b4) refl)))))))))
-
-pub ten-values : (bs : List ℕ) → length bs ≡ 5 → _≡_ {A = List ℕ} (headFields bs)
-    (getD bs 0 0 / 32 % 8 ∷ getD bs 0 0 / 2 % 16 ∷ (getD bs 0 0 % 2 * 8 + getD bs 1 0 / 32 % 8) ∷ getD bs 1 0 / 8 % 4
-    ∷ (getD bs 1 0 % 8 * 2 + getD bs 2 0 / 128 % 2) ∷ getD bs 2 0 / 16 % 8 ∷ getD bs 2 0 % 16
-    ∷ (getD bs 3 0 % 256 * 8 + getD bs 4 0 / 32 % 8) ∷ getD bs 4 0 / 16 % 2 ∷ getD bs 4 0 % 16 ∷ [])
-unfolding headFields
-ten-values bs h =
-    ap (λ (xs : List ℕ). fieldsOf headWidths (bitsOf xs)) (tabulated 5 bs h)
-    ∙ (ap (fieldsOf headWidths) (values-cut-is (getD bs 0 0) (getD bs 1 0) (getD bs 2 0) (getD bs 3 0) (getD bs 4 0))
-    ∙ values-of-cut (getD bs 0 0) (getD bs 1 0) (getD bs 2 0) (getD bs 3 0) (getD bs 4 0))
-
--- what the bytes hold, part by part
-pub head-from : (bs : List ℕ) → length bs ≡ 5 → (magazine high low : ℕ)
-    → magazine ≡ magazineFrom (getD bs 0 0 / 32 % 8) → high ≡ getD bs 3 0 → low ≡ getD bs 4 0
-    → _≡_ {A = Head}
+-- what they are, part by part
+pub head-of-word : (word magazine : ℕ) → magazine ≡ magazineFrom (word / 2 ^ 61 % 8) → _≡_ {A = Head}
     (record {
       magazine = magazine;
       header = record {
-        tens = getD bs 0 0 / 2 % 16;
-        units = getD bs 0 0 % 2 * 8 + getD bs 1 0 / 32 % 8;
-        «hours_tens» = getD bs 1 0 / 8 % 4;
-        «hours_units» = getD bs 1 0 % 8 * 2 + getD bs 2 0 / 128 % 2;
-        «minutes_tens» = getD bs 2 0 / 16 % 8;
-        «minutes_units» = getD bs 2 0 % 16;
-        control = high % 256 * 8 + low / 32 % 8;
+        tens = word / 2 ^ 57 % 16;
+        units = word / 2 ^ 53 % 16;
+        «hours_tens» = word / 2 ^ 51 % 4;
+        «hours_units» = word / 2 ^ 47 % 16;
+        «minutes_tens» = word / 2 ^ 44 % 8;
+        «minutes_units» = word / 2 ^ 40 % 16;
+        control = word / 2 ^ 29 % 2048;
       };
-      clean = eqb (getD bs 4 0 / 16 % 2) 1;
-      zero = getD bs 4 0 % 16;
+      clean = eqb (word / 2 ^ 28 % 2) 1;
+      zero = word / 2 ^ 24 % 16;
     })
-    (headFrom (headFields bs))
-unfolding headFrom
-head-from bs h magazine high low m hi lo = rw (m, hi, lo, ten-values bs h)
+    (headFrom (fieldsOf headWidths (digits 64 word)))
+unfolding headFrom total
+head-of-word word magazine e = rw (e, fields-cut headWidths 24 word)

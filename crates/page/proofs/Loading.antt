@@ -1,93 +1,75 @@
--- The loop that reads the cells: what is read, with what is left to read, is the whole.
-use mathlib.Core.Path.{_≡_, refl, _∙_, ap, subst, sym}
-use mathlib.Core.List.{List, [], _++_, append-assoc, append-nil}
-use Prim.Native.Nat.{ℕ, _+_, _*_, _-_, _<_}
+-- The loop that reads the cells, group by group: what is read is the whole's beginning.
+use mathlib.Core.Path.{_≡_, refl, _∙_, ap, sym}
+use mathlib.Core.List.{List, [], _∷_, _++_}
+use Prim.Native.Nat.{ℕ, _+_, _*_, _<_, _≤_}
 use native.Mathlib.Omega.{arith}
-use lib.ListN.{length, take, drop, length-append, length-drop}
-use lib.Seq.{length-take-le, take-all, take-at, drop-drop}
-use Rattle.page.specs.Private.{cellFields}
-use Rattle.page.specs.Records.{cellWidths, charactersFrom, marksFrom}
-use Rattle.page.proofs.Splits.{characters-append, fields-split, length-cell-fields, length-characters, length-marks, marks-append}
+use lib.ListN.{length, length-drop, getD, take, drop}
+use lib.Seq.{drop-drop}
+use Rattle.laws.proofs.Runs.{over, over-more}
+use Rattle.packing.specs.Cells.{cellFields, charactersFrom, eightFrom, groupBytes, groupCells, marksFrom}
+use Rattle.packing.specs.declared.EightCells.{EightCells}
+use Rattle.packing.proofs.Places.{characters-at, marks-at}
+use Rattle.page.proofs.Copies.{nine-taken}
+use Rattle.packing.proofs.Splits.{length-cell-fields, length-characters, length-marks}
 
-module _ («record» : List ℕ) where
-  -- the values of a group of eight cells, and those that are left from a group on
-  unfoldable pub eightOf : ℕ → List ℕ
-  eightOf group = cellFields 8 (take 9 (drop (5 + group * 9) «record»))
+-- eight more laid over a list, where those before them are
+pub eight-laid : (old all : List ℕ) (group : ℕ) → group * groupCells ≤ length all → (some new eight : List ℕ) → length eight ≡ groupCells
+    → eight ≡ take groupCells (drop (group * groupCells) all) → some ≡ over old all (group * groupCells)
+    → new ≡ take (group * groupCells) some ++ eight ++ drop (group * groupCells + length eight) some
+    → new ≡ over old all ((group + 1) * groupCells)
+eight-laid old all group h some new eight l e f g =
+    let next : group * groupCells + groupCells ≡ (group + 1) * groupCells = omega arith in
+    g
+    ∙ ((λ i. take (group * groupCells) (f i) ++ e i ++ drop (group * groupCells + l i) (f i))
+    ∙ (over-more old all (group * groupCells) groupCells h ∙ ap (over old all) next))
 
-  unfoldable pub valuesLeft : ℕ → List ℕ
-  valuesLeft group = cellFields (8 * (120 - group)) (drop (5 + group * 9) «record»)
+-- so many groups, from a place on
+module _ (groups at : ℕ) («record» : List ℕ) (long : length «record» ≡ at + groups * groupBytes) where
+  abbrev bytes : List ℕ
+  bytes = drop at «record»
 
-  left-more : length «record» ≡ 1085 → (group : ℕ) → group < 120 → valuesLeft group ≡ eightOf group ++ valuesLeft (group + 1)
-  unfolding valuesLeft eightOf
-  left-more l group h =
-      let n = 8 * (120 - (group + 1)) in
-      let rest = drop (5 + group * 9) «record» in
-      let e : 8 * (120 - group) ≡ 8 + n = omega arith in
-      let next : 5 + group * 9 + 9 ≡ 5 + (group + 1) * 9 = omega arith in
-      ap (λ (k : ℕ). cellFields k rest) e
-      ∙ (fields-split 8 9 refl n rest (simp length-drop (omega arith))
-      ∙ ap (λ (xs : List ℕ). eightOf group ++ cellFields n xs) (drop-drop 9 (5 + group * 9) «record» ∙ ap (λ (k : ℕ). drop k «record») next))
+  length-rest : length bytes ≡ groups * groupBytes
+  length-rest = length-drop at «record» ∙ omega arith
 
-  -- the marks, or the characters, of a run of values
-  module _ (part : List ℕ → List ℕ) (joins : (xs ys : List ℕ) → length xs ≡ 16 → part (xs ++ ys) ≡ part xs ++ part ys)
-      (sized : (xs : List ℕ) → length xs ≡ 16 → length (part xs) ≡ 8) where
-    part-more : length «record» ≡ 1085 → (group : ℕ) → group < 120 → (old new : List ℕ) → length old ≡ 960
-        → new ≡ take (group * 8) old ++ part (eightOf group) ++ drop (group * 8 + 8) old
-        → take ((group + 1) * 8) new ++ part (valuesLeft (group + 1)) ≡ take (group * 8) old ++ part (valuesLeft group)
-    unfolding eightOf
-    part-more l group h old new long e =
-        let sixteen : length (eightOf group) ≡ 16 = length-cell-fields 8 (take 9 (drop (5 + group * 9) «record»)) in
-        let front = take (group * 8) old ++ part (eightOf group) in
-        let size : length front ≡ (group + 1) * 8 =
-        length-append (take (group * 8) old) (part (eightOf group))
-        ∙ rw (length-take-le (group * 8) old (omega arith), sized (eightOf group) sixteen) (omega arith) in
-        let taken : take ((group + 1) * 8) new ≡ front =
-        ap (take ((group + 1) * 8)) e ∙ take-at front (drop (group * 8 + 8) old) ((group + 1) * 8) size in
-        rw (taken, left-more l group h, joins (eightOf group) (valuesLeft (group + 1)) sixteen)
-        (append-assoc (take (group * 8) old) (part (eightOf group)) (part (valuesLeft (group + 1))))
+  abbrev values : List ℕ
+  values = cellFields (groups * groupCells) bytes
 
-    part-length : length «record» ≡ 1085 → (group : ℕ) → group < 120 → (old new : List ℕ) → length old ≡ 960
-        → new ≡ take (group * 8) old ++ part (eightOf group) ++ drop (group * 8 + 8) old → length new ≡ 960
-    unfolding eightOf
-    part-length l group h old new long e =
-        let sixteen : length (eightOf group) ≡ 16 = length-cell-fields 8 (take 9 (drop (5 + group * 9) «record»)) in
-        ap length e
-        ∙ (length-append (take (group * 8) old ++ part (eightOf group)) (drop (group * 8 + 8) old)
-        ∙ rw (
-          length-append (take (group * 8) old) (part (eightOf group)),
-          length-take-le (group * 8) old (omega arith),
-          sized (eightOf group) sixteen,
-          length-drop (group * 8 + 8) old,
-        ) (omega arith))
+  abbrev pub allMarks : List ℕ
+  allMarks = marksFrom values
 
-  module _ (l : length «record» ≡ 1085) (group : ℕ) (h : group < 120) (old new : List ℕ) (long : length old ≡ 960) where
-    pub marks-more : new ≡ take (group * 8) old ++ marksFrom (eightOf group) ++ drop (group * 8 + 8) old
-        → take ((group + 1) * 8) new ++ marksFrom (valuesLeft (group + 1)) ≡ take (group * 8) old ++ marksFrom (valuesLeft group)
-    marks-more = part-more marksFrom (marks-append 8) (length-marks 8) l group h old new long
+  abbrev pub allCharacters : List ℕ
+  allCharacters = charactersFrom values
 
-    pub characters-more : new ≡ take (group * 8) old ++ charactersFrom (eightOf group) ++ drop (group * 8 + 8) old
-        → take ((group + 1) * 8) new ++ charactersFrom (valuesLeft (group + 1)) ≡ take (group * 8) old ++ charactersFrom (valuesLeft group)
-    characters-more = part-more charactersFrom (characters-append 8) (length-characters 8) l group h old new long
+  pub length-all-marks : length allMarks ≡ groups * groupCells
+  length-all-marks = length-marks (groups * groupCells) values (length-cell-fields (groups * groupCells) bytes)
 
-    pub marks-length : new ≡ take (group * 8) old ++ marksFrom (eightOf group) ++ drop (group * 8 + 8) old → length new ≡ 960
-    marks-length = part-length marksFrom (marks-append 8) (length-marks 8) l group h old new long
+  pub length-all-characters : length allCharacters ≡ groups * groupCells
+  length-all-characters = length-characters (groups * groupCells) values (length-cell-fields (groups * groupCells) bytes)
 
-    pub characters-length : new ≡ take (group * 8) old ++ charactersFrom (eightOf group) ++ drop (group * 8 + 8) old → length new ≡ 960
-    characters-length = part-length charactersFrom (characters-append 8) (length-characters 8) l group h old new long
+  module _ (group : ℕ) (h : group < groups) where
+    -- the group's bytes among those of the cells
+    nine-are : take groupBytes (drop (at + group * groupBytes) «record») ≡ take groupBytes (drop (group * groupBytes) bytes)
+    nine-are = ap (take groupBytes) (sym (drop-drop (group * groupBytes) at «record»))
 
-  -- all read
-  none-left : valuesLeft 120 ≡ []
-  unfolding valuesLeft cellFields cellWidths
-  none-left = refl
+    -- the cells that were read, of the bytes that were taken
+    module _ (first : List ℕ) (last : ℕ) (eight : EightCells) (e : first ≡ take groupCells (drop (at + group * groupBytes) «record»))
+        (l : last ≡ getD «record» (at + group * groupBytes + groupCells) 0) (f : eight ≡ eightFrom (cellFields groupCells (first ++ (last ∷ [])))) where
+      joined : cellFields groupCells (first ++ (last ∷ [])) ≡ cellFields groupCells (take groupBytes (drop (group * groupBytes) bytes))
+      joined =
+          ap (cellFields groupCells) ((λ i. e i ++ (l i ∷ [])) ∙ (nine-taken «record» (at + group * groupBytes) (omega arith) ∙ nine-are))
 
-  pub all-left : valuesLeft 0 ≡ cellFields 960 (drop 5 «record»)
-  unfolding valuesLeft
-  all-left = refl
+      pub marks-read : eight .marks ≡ take groupCells (drop (group * groupCells) allMarks)
+      unfolding eightFrom
+      marks-read =
+          ap (λ (cells : EightCells). cells .marks) f
+          ∙ (ap marksFrom joined
+          ∙ sym (marks-at (groups * groupCells) (groups * groupBytes) (group * groupCells) (group * groupBytes) groupCells groupBytes (omega arith) refl (omega arith)
+          (omega arith) bytes length-rest))
 
-  pub all-read : (part : List ℕ → List ℕ) → part [] ≡ [] → (group : ℕ) → group ≡ 120 → (last : List ℕ) → length last ≡ 960
-      → take (group * 8) last ++ part (valuesLeft group) ≡ part (valuesLeft 0) → last ≡ part (cellFields 960 (drop 5 «record»))
-  all-read part none group g last long e =
-      sym (take-all 960 last (omega arith))
-      ∙ (sym (append-nil (take 960 last))
-      ∙ (ap (λ (xs : List ℕ). take 960 last ++ xs) (sym (ap part none-left ∙ none))
-      ∙ (subst (λ (k : ℕ). take (k * 8) last ++ part (valuesLeft k) ≡ part (valuesLeft 0)) g e ∙ ap part all-left)))
+      pub characters-read : eight .characters ≡ take groupCells (drop (group * groupCells) allCharacters)
+      unfolding eightFrom
+      characters-read =
+          ap (λ (cells : EightCells). cells .characters) f
+          ∙ (ap charactersFrom joined
+          ∙ sym (characters-at (groups * groupCells) (groups * groupBytes) (group * groupCells) (group * groupBytes) groupCells groupBytes (omega arith) refl (omega arith)
+          (omega arith) bytes length-rest))

@@ -19,12 +19,24 @@ use Rattle.page.specs.Records.{headerWidths, markWidth, characterWidth}
 abbrev pub space : ℕ
 space = 32
 
--- 0 never, 1 older, 2 fresh
+-- the marks: 0 never, 1 older, 2 fresh
 abbrev pub never : ℕ
 never = 0
 
+abbrev pub older : ℕ
+older = 1
+
+abbrev pub fresh : ℕ
+fresh = 2
+
 abbrev pub highestMark : ℕ
-highestMark = 2
+highestMark = fresh
+
+unfoldable pub isNever : ℕ → Bool
+isNever mark = eqb mark never
+
+unfoldable pub isFresh : ℕ → Bool
+isFresh mark = eqb mark fresh
 
 -- ---- 24: magazine not 1 to 8, or a part, mark or character too large for its bits
 
@@ -52,9 +64,6 @@ digitsLawful header = leb (header .tens) 9 && leb (header .units) 9
 
 unfoldable pub cellLawful : ℕ → ℕ → Bool
 cellLawful mark character = leb mark highestMark && (not (eqb mark never) || eqb character space)
-
-unfoldable pub isNever : ℕ → Bool
-isNever mark = eqb mark never
 
 unfoldable pub cellsLawful : Cells → Bool
 unfolding everyPair cellLawful every isNever

@@ -1,36 +1,49 @@
 -- For the contracts of private functions: no promise rests on these words.
-use mathlib.Core.Bool.{Bool, false}
-use mathlib.Core.List.{List}
-use Prim.Native.Nat.{ℕ}
-use lib.Dec.{eqb}
-use lib.ListN.{getD}
-use Rattle.laws.specs.Fields.{fieldsBits, fieldsOf, bytesOf, bitsOf}
+use mathlib.Core.Bool.{Bool, cond, false}
+use mathlib.Core.List.{List, _++_}
+use Prim.Native.Nat.{ℕ, _*_, _/_}
+use lib.ListN.{getD, take, drop}
+use Rattle.laws.specs.Fields.{bitsOf, bytesOf, fieldsBits, fieldsOf}
+use Rattle.grid.specs.Grid.{cellCount, rows}
+use Rattle.packing.specs.Cells.{cellBytes, groupCells}
 use Rattle.packet.specs.declared.Header.{Header}
-use Rattle.page.specs.Records.{headWidths, headValues, cellWidths, cellValues, magazineFrom, headerAt, zeroFrom}
+use Rattle.page.specs.Lawful.{cellsLawful}
+use Rattle.page.specs.Records.{cleanFrom, headLength, headValues, headWidths, headerAt, magazineFrom, pageOf, recordLength, rowLength, zeroFrom}
+use Rattle.page.specs.Reading.{zeroPage}
 use Rattle.page.specs.Writing.{pageAnswer}
 use Rattle.page.specs.declared.Cells.{Cells}
-use Rattle.page.specs.declared.Head.{Head}
+use Rattle.page.specs.declared.PageRead.{PageRead}
+use Rattle.page.specs.declared.ReadAnswer.{ReadAnswer}
+use Rattle.page.specs.declared.ReadAnswer.the-variants.{Read, UnlawfulCells}
 use Rattle.page.specs.declared.WriteAnswer.{WriteAnswer}
+use Rattle.page.specs.declared.WriteAnswer.the-variants.{BadDigit}
+use Rattle.page.specs.declared.reading.Head.{Head}
+
+-- the groups of cells that fill whole bytes
+abbrev pub groupCount : ℕ
+groupCount = cellCount / groupCells
+
+-- the bytes of the cells
+abbrev pub cellsLength : ℕ
+cellsLength = rows * rowLength
+
+-- a record with the bytes of its cells stored
+abbrev pub cellsStored : List ℕ → List ℕ → List ℕ → List ℕ
+cellsStored marks characters lent = take headLength lent ++ cellBytes cellCount cellsLength marks characters ++ drop recordLength lent
 
 -- the bytes before the cells
 unfoldable pub headBytes : ℕ → Header → Bool → List ℕ
 unfolding bytesOf fieldsBits headValues
-headBytes magazine header clean = bytesOf 5 (fieldsBits headWidths (headValues magazine header clean))
+headBytes magazine header clean = bytesOf headLength (fieldsBits headWidths (headValues magazine header clean))
+
+-- an answer of a page whose digits are lawful, and 22 of any other
+abbrev pub byDigits : Bool → WriteAnswer → WriteAnswer
+byDigits digits answer = cond digits answer BadDigit
 
 -- a page's answer, from its parts
 unfoldable pub partsAnswer : ℕ → Header → Cells → WriteAnswer
 unfolding pageAnswer
-partsAnswer magazine header cells = pageAnswer (record { magazine = magazine; header = header; clean = false; cells = cells })
-
--- the bytes of so many cells
-unfoldable pub cellBytes : ℕ → ℕ → List ℕ → List ℕ → List ℕ
-unfolding bytesOf fieldsBits cellWidths cellValues
-cellBytes count bytes marks characters = bytesOf bytes (fieldsBits (cellWidths count) (cellValues marks characters))
-
--- the values of so many cells in their bytes
-unfoldable pub cellFields : ℕ → List ℕ → List ℕ
-unfolding bitsOf fieldsOf cellWidths
-cellFields count bytes = fieldsOf (cellWidths count) (bitsOf bytes)
+partsAnswer magazine header cells = pageAnswer (pageOf magazine header false cells)
 
 -- the values before the cells in their bytes
 unfoldable pub headFields : List ℕ → List ℕ
@@ -39,6 +52,13 @@ headFields bytes = fieldsOf headWidths (bitsOf bytes)
 
 -- what they are
 unfoldable pub headFrom : List ℕ → Head
-unfolding magazineFrom headerAt zeroFrom
-headFrom values =
-    record { magazine = magazineFrom (getD values 0 0); header = headerAt values; clean = eqb (getD values 8 0) 1; zero = zeroFrom values }
+unfolding magazineFrom headerAt cleanFrom zeroFrom
+headFrom values = record { magazine = magazineFrom (getD values 0 0); header = headerAt values; clean = cleanFrom values; zero = zeroFrom values }
+
+-- a refusal and what stands beside it, and the page of a head and its cells, or 23
+abbrev pub refusedRead : ReadAnswer → PageRead
+refusedRead answer = record { answer = answer; page = zeroPage }
+
+abbrev pub headedRead : Head → Cells → PageRead
+headedRead head cells =
+    cond (cellsLawful cells) (record { answer = Read; page = pageOf (head .magazine) (head .header) (head .clean) cells }) (refusedRead UnlawfulCells)

@@ -3,39 +3,43 @@ use mathlib.Core.Bool.{cond, false}
 use mathlib.Core.List.{List, []}
 use Prim.Native.Nat.{ℕ}
 use lib.Dec.{eqb}
-use lib.ListN.{length, replicate}
+use lib.ListN.{length}
 use Rattle.laws.specs.Paper.{Paper, accepted, refusedBy}
+use Rattle.grid.specs.Grid.{rows}
 use Rattle.packet.specs.Headers.{zeroHeader}
 use Rattle.page.specs.Lawful.{digitsLawful, cellsLawful}
-use Rattle.page.specs.Records.{cellCount, cellsOf, recordLength, recordValues, zeroFrom, pageFrom}
+use Rattle.page.specs.Records.{pageFrom, pageOf, recordLengthOf, valuesIn, zeroCells, zeroFrom}
 use Rattle.page.specs.declared.Page.{Page}
 use Rattle.page.specs.declared.ReadAnswer.{ReadAnswer}
 use Rattle.page.specs.declared.ReadAnswer.the-variants.{Read, WrongLength, NotZero, BadDigit, UnlawfulCells}
 
 -- all zeros, literally: characters 00, marks 0, magazine 0
 unfoldable pub zeroPage : Page
-unfolding zeroHeader
-zeroPage =
-    record {
-      magazine = 0;
-      header = zeroHeader;
-      clean = false;
-      cells = cellsOf (replicate cellCount 0) (replicate cellCount 0);
-    }
+unfolding zeroHeader zeroCells
+zeroPage = pageOf 0 zeroHeader false zeroCells
 
 -- the page of a record's bytes, whether it is lawful or not
-unfoldable pub pageIn : List ℕ → Page
-unfolding pageFrom recordValues
-pageIn bytes = pageFrom (recordValues bytes)
+unfoldable pub pageInRows : ℕ → List ℕ → Page
+unfolding pageFrom valuesIn
+pageInRows count bytes = pageFrom (valuesIn count bytes)
 
-unfoldable pub readAnswer : List ℕ → ReadAnswer
-unfolding zeroFrom recordValues pageIn digitsLawful cellsLawful
-readAnswer bytes =
-    cond (eqb (length bytes) recordLength)
-    (cond (eqb (zeroFrom (recordValues bytes)) 0)
-    (cond (digitsLawful (pageIn bytes .header)) (cond (cellsLawful (pageIn bytes .cells)) Read UnlawfulCells) BadDigit)
+unfoldable pub pageIn : List ℕ → Page
+unfolding pageInRows
+pageIn bytes = pageInRows rows bytes
+
+-- what bytes give that are read as a record of so many rows
+unfoldable pub readAnswerFor : ℕ → List ℕ → ReadAnswer
+unfolding zeroFrom valuesIn pageInRows digitsLawful cellsLawful
+readAnswerFor count bytes =
+    cond (eqb (length bytes) (recordLengthOf count))
+    (cond (eqb (zeroFrom (valuesIn count bytes)) 0)
+    (cond (digitsLawful (pageInRows count bytes .header)) (cond (cellsLawful (pageInRows count bytes .cells)) Read UnlawfulCells) BadDigit)
     NotZero)
     WrongLength
+
+unfoldable pub readAnswer : List ℕ → ReadAnswer
+unfolding readAnswerFor
+readAnswer bytes = readAnswerFor rows bytes
 
 unfoldable pub readPaper : ReadAnswer → Paper
 unfolding accepted refusedBy

@@ -1,26 +1,33 @@
 -- Document 01, "The page record": bit-packed, most significant first: magazine 3 (0 for 8), page tens 4, units 4, hours tens 2, units 4, minutes
--- tens 3, units 4, C4 to C14 in order 11, clean 1, zero 4; then 960 cells row by row, mark 2 and character 7. In all 1,085 bytes.
+-- tens 3, units 4, C4 to C14 in order 11, clean 1, zero 4; then 960 cells row by row, mark 2 and character 7. In all 1,085 bytes. The form is said for any
+-- number of rows; a record has the grid's.
 use mathlib.Core.Bool.{Bool, cond}
 use mathlib.Core.List.{List, [], _∷_, _++_}
-use Prim.Native.Nat.{ℕ, zero, suc, _*_, _%_}
+use Prim.Native.Nat.{ℕ, _+_, _*_, _%_}
 use lib.Dec.{eqb}
-use lib.ListN.{getD, drop}
+use lib.ListN.{getD, drop, length, replicate}
 use Rattle.laws.specs.Fields.{fieldsBits, fieldsOf, bytesOf, bitsOf}
+use Rattle.grid.specs.Grid.{rows, columns, cellCount}
 use Rattle.packet.specs.Headers.{headerValues}
-use Rattle.packet.specs.Texts.{columns}
 use Rattle.packet.specs.declared.Header.{Header}
+use Rattle.packing.specs.Cells.{cellValues, cellWidths, charactersFrom, marksFrom}
 use Rattle.page.specs.declared.Cells.{Cells}
 use Rattle.page.specs.declared.Page.{Page}
+pub use Rattle.packing.specs.Cells.{characterWidth, markWidth}
 
-abbrev pub rows : ℕ
-rows = 24
+-- the bytes before the cells
+abbrev pub headLength : ℕ
+headLength = 5
 
--- 24 rows of 40 columns
-abbrev pub cellCount : ℕ
-cellCount = rows * columns
+-- each row is 45 whole bytes
+abbrev pub rowLength : ℕ
+rowLength = 45
+
+abbrev pub recordLengthOf : ℕ → ℕ
+recordLengthOf count = headLength + count * rowLength
 
 abbrev pub recordLength : ℕ
-recordLength = 1085
+recordLength = recordLengthOf rows
 
 -- ---- the widths
 
@@ -37,29 +44,26 @@ cleanWidth = 1
 abbrev pub zeroWidth : ℕ
 zeroWidth = 4
 
-abbrev pub markWidth : ℕ
-markWidth = 2
-
-abbrev pub characterWidth : ℕ
-characterWidth = 7
-
 -- the widths before the cells
 abbrev pub headWidths : List ℕ
 headWidths = magazineWidth ∷ headerWidths ++ (cleanWidth ∷ zeroWidth ∷ [])
 
--- so many cells, mark and character each
-unfoldable pub cellWidths : ℕ → List ℕ
-cellWidths zero = []
-cellWidths (suc count) = markWidth ∷ characterWidth ∷ cellWidths count
-
-unfoldable pub recordWidths : List ℕ
+unfoldable pub recordWidthsOf : ℕ → List ℕ
 unfolding cellWidths
-recordWidths = headWidths ++ cellWidths cellCount
+recordWidthsOf count = headWidths ++ cellWidths (count * columns)
 
 -- ---- the values of a page, in their order
 
 abbrev pub cellsOf : List ℕ → List ℕ → Cells
 cellsOf characters marks = record { characters = characters; marks = marks }
+
+-- a page of its parts
+abbrev pub pageOf : ℕ → Header → Bool → Cells → Page
+pageOf magazine header clean cells = record { magazine = magazine; header = header; clean = clean; cells = cells }
+
+-- the zero of cells: characters 00, marks 0
+unfoldable pub zeroCells : Cells
+zeroCells = cellsOf (replicate cellCount 0) (replicate cellCount 0)
 
 -- 0 for 8
 unfoldable pub magazineValue : ℕ → ℕ
@@ -69,25 +73,25 @@ unfoldable pub headValues : ℕ → Header → Bool → List ℕ
 unfolding magazineValue headerValues
 headValues magazine header clean = magazineValue magazine ∷ headerValues header ++ (cond clean 1 0 ∷ 0 ∷ [])
 
--- each cell's mark and character, from the marks and the characters
-unfoldable pub cellValues : List ℕ → List ℕ → List ℕ
-cellValues [] characters = []
-cellValues (mark ∷ marks) [] = []
-cellValues (mark ∷ marks) (character ∷ characters) = mark ∷ character ∷ cellValues marks characters
-
 unfoldable pub valuesOf : Page → List ℕ
 unfolding headValues cellValues
 valuesOf page = headValues (page .magazine) (page .header) (page .clean) ++ cellValues (page .cells .marks) (page .cells .characters)
 
+-- the record of a page of so many rows
+unfoldable pub recordFor : ℕ → Page → List ℕ
+unfolding bytesOf fieldsBits recordWidthsOf valuesOf
+recordFor count page = bytesOf (recordLengthOf count) (fieldsBits (recordWidthsOf count) (valuesOf page))
+
 unfoldable pub recordOf : Page → List ℕ
-unfolding bytesOf fieldsBits recordWidths valuesOf
-recordOf page = bytesOf recordLength (fieldsBits recordWidths (valuesOf page))
+unfolding recordFor
+recordOf page = recordFor rows page
 
 -- ---- and back: the values in a record's bytes, and the page that they are
 
-unfoldable pub recordValues : List ℕ → List ℕ
-unfolding bitsOf fieldsOf recordWidths
-recordValues bytes = fieldsOf recordWidths (bitsOf bytes)
+-- of a record of so many rows
+unfoldable pub valuesIn : ℕ → List ℕ → List ℕ
+unfolding bitsOf fieldsOf recordWidthsOf
+valuesIn count bytes = fieldsOf (recordWidthsOf count) (bitsOf bytes)
 
 -- 0 is 8
 unfoldable pub magazineFrom : ℕ → ℕ
@@ -106,31 +110,18 @@ headerAt values =
       control = getD values 7 0;
     }
 
+unfoldable pub cleanFrom : List ℕ → Bool
+cleanFrom values = eqb (getD values 8 0) 1
+
 -- the four zero bits
 unfoldable pub zeroFrom : List ℕ → ℕ
 zeroFrom values = getD values 9 0
-
--- every other value, mark first
-unfoldable pub marksFrom : List ℕ → List ℕ
-marksFrom [] = []
-marksFrom (mark ∷ []) = []
-marksFrom (mark ∷ character ∷ values) = mark ∷ marksFrom values
-
-unfoldable pub charactersFrom : List ℕ → List ℕ
-charactersFrom [] = []
-charactersFrom (mark ∷ []) = []
-charactersFrom (mark ∷ character ∷ values) = character ∷ charactersFrom values
 
 unfoldable pub cellsFrom : List ℕ → Cells
 unfolding marksFrom charactersFrom
 cellsFrom values = cellsOf (charactersFrom values) (marksFrom values)
 
 unfoldable pub pageFrom : List ℕ → Page
-unfolding magazineFrom headerAt cellsFrom
+unfolding magazineFrom headerAt cleanFrom cellsFrom
 pageFrom values =
-    record {
-      magazine = magazineFrom (getD values 0 0);
-      header = headerAt values;
-      clean = eqb (getD values 8 0) 1;
-      cells = cellsFrom (drop 10 values);
-    }
+    pageOf (magazineFrom (getD values 0 0)) (headerAt values) (cleanFrom values) (cellsFrom (drop (length headWidths) values))

@@ -1,146 +1,109 @@
--- A page's text row by row: each takes 41 bytes of it, 40 for its cells and the line feed.
+-- A page's text as it is built: so many rows, each with its line feed, and line feeds alone behind them.
 use mathlib.Core.Path.{_≡_, refl, sym, _∙_, ap}
-use mathlib.Core.List.{List, _++_, append-assoc, append-nil}
+use mathlib.Core.List.{List, [], _∷_, _++_, append-assoc, append-nil}
 use Prim.Native.Nat.{ℕ, zero, suc, _+_, _-_, _*_, _<_, _≤_}
-use native.Mathlib.Nat.{suc-add}
+use native.Mathlib.Numerals.{add-one}
 use native.Mathlib.Omega.{arith}
 use lib.ListN.{length, take, drop, replicate, length-append, length-replicate}
-use lib.Seq.{length-take-le, take-all, take-at, take-add, drop-at, drop-drop, paste}
-use Rattle.display.specs.Display.{columns}
+use lib.Seq.{take-all, take-at, drop-at, drop-drop, paste}
+use Rattle.grid.specs.Grid.{columns, rows}
 use Rattle.printing.specs.Printed.{printed}
-use Rattle.printing.specs.Pages.{lineFeed, rowText, rowsText, pageText}
+use Rattle.printing.specs.Pages.{lineFeed, lineSize, pageSize, pageText, rowText, rowsText}
 use Rattle.printing.proofs.Printed.{forty}
 
-row-length : (codes : List ℕ) → length (rowText codes) ≡ 41
+-- the codes of a row
+abbrev pub rowCodes : List ℕ → ℕ → List ℕ
+rowCodes codes row = take columns (drop (columns * row) codes)
+
+row-length : (codes : List ℕ) → length (rowText codes) ≡ lineSize
 unfolding rowText
 row-length codes = length-append (printed codes .bytes) lineFeed ∙ ap (λ (n : ℕ). n + 1) (forty codes)
 
-rows-cons : (rows : ℕ) (characters : List ℕ) → rowsText (suc rows) characters ≡ rowText (take columns characters) ++ rowsText rows (drop columns characters)
+rows-length : (count : ℕ) (codes : List ℕ) → length (rowsText count codes) ≡ lineSize * count
 unfolding rowsText
-rows-cons rows characters = refl
+rows-length zero codes = refl
+rows-length (suc count) codes =
+    let first = row-length (take columns codes) in
+    let others = rows-length count (drop columns codes) in
+    length-append (rowText (take columns codes)) (rowsText count (drop columns codes))
+    ∙ (let e : length (rowText (take columns codes)) + length (rowsText count (drop columns codes)) ≡ lineSize * suc count = omega arith in e)
 
--- behind some rows come the others
-pub rows-drop : (row rows : ℕ) (characters : List ℕ) → drop (41 * row) (rowsText (row + rows) characters) ≡ rowsText rows (drop (40 * row) characters)
-rows-drop zero rows characters = ap (λ (n : ℕ). rowsText n characters) (let e : 0 + rows ≡ rows = omega arith in e)
-rows-drop (suc row) rows characters =
-    let more : 41 * suc row ≡ 41 + 41 * row = omega arith in
-    let further : 40 + 40 * row ≡ 40 * suc row = omega arith in
-    ap (λ (n : ℕ). drop n (rowsText (suc row + rows) characters)) more
-    ∙ (sym (drop-drop (41 * row) 41 (rowsText (suc row + rows) characters))
-    ∙ (ap (λ (n : ℕ). drop (41 * row) (drop 41 (rowsText n characters))) (suc-add row rows)
-    ∙ (ap (λ (text : List ℕ). drop (41 * row) (drop 41 text)) (rows-cons (row + rows) characters)
-    ∙ (ap (drop (41 * row)) (drop-at (rowText (take columns characters)) (rowsText (row + rows) (drop columns characters)) 41 (row-length (take columns characters)))
-    ∙ (rows-drop row rows (drop columns characters)
-    ∙ (ap (rowsText rows) (drop-drop (40 * row) 40 characters)
-    ∙ ap (λ (n : ℕ). rowsText rows (drop n characters)) further))))))
-
-module _ (characters : List ℕ) (row : ℕ) (h : row < 24) where
-  codes : List ℕ
-  codes = take columns (drop (40 * row) characters)
-
-  others : List ℕ
-  others = rowsText (23 - row) (drop columns (drop (40 * row) characters))
-
-  from-row : drop (41 * row) (pageText characters) ≡ rowText codes ++ others
-  unfolding pageText codes others
-  from-row =
-      let all : 24 ≡ row + suc (23 - row) = omega arith in
-      ap (λ (n : ℕ). drop (41 * row) (rowsText n characters)) all
-      ∙ (rows-drop row (suc (23 - row)) characters ∙ rows-cons (23 - row) (drop (40 * row) characters))
-
-  -- the row's 41 bytes, where they stand in the page's text
-  row-next : take 41 (drop (41 * row) (pageText characters)) ≡ rowText codes
-  row-next = ap (take 41) from-row ∙ take-at (rowText codes) others 41 (row-length codes)
-
--- all of it
-rows-length : (rows : ℕ) (characters : List ℕ) → length (rowsText rows characters) ≡ 41 * rows
-unfolding rowsText
-rows-length zero characters = refl
-rows-length (suc rows) characters =
-    let first = row-length (take columns characters) in
-    let rest = rows-length rows (drop columns characters) in
-    length-append (rowText (take columns characters)) (rowsText rows (drop columns characters)) ∙ (let e : length (rowText (take columns characters)) + length (rowsText rows (drop columns characters)) ≡ 41 * suc rows = omega arith in e)
-
-page-length : (characters : List ℕ) → length (pageText characters) ≡ 984
+pub page-length : (codes : List ℕ) → length (pageText codes) ≡ pageSize
 unfolding pageText
-page-length characters = rows-length 24 characters
+page-length codes = rows-length rows codes
 
--- ---- a page's text as it is built
+-- one row more at the end
+pub rows-more : (row : ℕ) (codes : List ℕ) → rowsText (suc row) codes ≡ rowsText row codes ++ rowText (rowCodes codes row)
+unfolding rowsText
+rows-more zero codes = append-nil (rowText (take columns codes))
+rows-more (suc row) codes =
+    let first = rowText (take columns codes) in
+    let further : columns + columns * row ≡ columns * suc row = omega arith in
+    ap (λ (text : List ℕ). first ++ text) (rows-more row (drop columns codes))
+    ∙ (sym (append-assoc first (rowsText row (drop columns codes)) (rowText (rowCodes (drop columns codes) row)))
+    ∙ ap (λ (from : List ℕ). (first ++ rowsText row (drop columns codes)) ++ rowText (take columns from)) (drop-drop (columns * row) columns codes ∙ ap (λ (n : ℕ). drop n codes) further))
 
-lineFeeds : ℕ → List ℕ
-lineFeeds count = replicate count 0x0A
+-- ---- the text as it is built
 
-feeds-dropped : (k n : ℕ) → drop k (lineFeeds (k + n)) ≡ lineFeeds n
-unfolding lineFeeds
-feeds-dropped zero n = ap lineFeeds (let e : 0 + n ≡ n = omega arith in e)
-feeds-dropped (suc k) n = ap (λ (m : ℕ). drop (suc k) (lineFeeds m)) (suc-add k n) ∙ feeds-dropped k n
+feeds : ℕ → List ℕ
+feeds count = replicate count 0x0A
 
-feeds-length : (n : ℕ) → length (lineFeeds n) ≡ n
-unfolding lineFeeds
-feeds-length n = length-replicate n 0x0A
+feeds-dropped : (k n : ℕ) → drop k (feeds n) ≡ feeds (n - k)
+unfolding feeds
+feeds-dropped zero n = ap feeds (let e : n ≡ n - 0 = omega arith in e)
+feeds-dropped (suc k) zero = ap feeds (let e : 0 ≡ 0 - suc k = omega arith in e)
+feeds-dropped (suc k) (suc n) = feeds-dropped k n ∙ ap feeds (let e : n - k ≡ suc n - suc k = omega arith in e)
 
--- so many rows of it, and line feeds alone behind them
 pub upTo : List ℕ → ℕ → List ℕ
-upTo characters rows = take (41 * rows) (pageText characters) ++ lineFeeds (984 - 41 * rows)
+upTo codes row = rowsText row codes ++ feeds (lineSize * (rows - row))
 
-pub none-yet : (characters : List ℕ) → replicate 984 0x0A ≡ upTo characters 0
-unfolding upTo lineFeeds
-none-yet characters = refl
+pub none-yet : (codes : List ℕ) → replicate pageSize 0x0A ≡ upTo codes 0
+unfolding upTo feeds rowsText
+none-yet codes = refl
 
-pub all-there : (characters : List ℕ) → upTo characters 24 ≡ pageText characters
-unfolding upTo lineFeeds
-all-there characters = append-nil (take 984 (pageText characters)) ∙ take-all 984 (pageText characters) (let e = page-length characters in omega arith)
+pub all-there : (codes : List ℕ) → upTo codes rows ≡ pageText codes
+unfolding upTo feeds pageText
+all-there codes = append-nil (rowsText rows codes)
 
-rows-taken : (characters : List ℕ) (rows : ℕ) → rows ≤ 24 → length (take (41 * rows) (pageText characters)) ≡ 41 * rows
-rows-taken characters rows h = length-take-le (41 * rows) (pageText characters) (let e = page-length characters in omega arith)
-
-pub up-to-length : (characters : List ℕ) (rows : ℕ) → rows ≤ 24 → length (upTo characters rows) ≡ 984
-unfolding upTo
-up-to-length characters rows h =
-    let taken = rows-taken characters rows h in
-    let feeds : length (lineFeeds (984 - 41 * rows)) ≡ 984 - 41 * rows = feeds-length (984 - 41 * rows) in
-    length-append (take (41 * rows) (pageText characters)) (lineFeeds (984 - 41 * rows)) ∙ (let e : length (take (41 * rows) (pageText characters)) + length (lineFeeds (984 - 41 * rows)) ≡ 984 = omega arith in e)
+pub up-to-length : (codes : List ℕ) (row : ℕ) → row ≤ rows → length (upTo codes row) ≡ pageSize
+unfolding upTo feeds
+up-to-length codes row h =
+    let there = rows-length row codes in
+    let behind = length-replicate {A = ℕ} (lineSize * (rows - row)) 0x0A in
+    length-append (rowsText row codes) (feeds (lineSize * (rows - row)))
+    ∙ (let e : length (rowsText row codes) + length (replicate (lineSize * (rows - row)) 0x0A) ≡ pageSize = omega arith in e)
 
 -- a row's bytes laid behind those before it: its line feed is there already
-module _ (characters : List ℕ) (row : ℕ) (h : row < 24) where
+module _ (codes : List ℕ) (row : ℕ) (h : row < rows) where
   before : List ℕ
-  before = take (41 * row) (pageText characters)
+  before = rowsText row codes
 
-  bytes : List ℕ
-  bytes = printed (take columns (drop (40 * row) characters)) .bytes
+  behind : List ℕ
+  behind = feeds (lineSize * (rows - (row + 1)))
 
-  feeds : List ℕ
-  feeds = lineFeeds (984 - 41 * (row + 1))
+  dropped : drop (lineSize * row + columns) (upTo codes row) ≡ lineFeed ++ behind
+  unfolding upTo feeds behind
+  dropped =
+      let left : lineSize * (rows - row) - columns ≡ suc (lineSize * (rows - (row + 1))) = omega arith in
+      sym (drop-drop columns (lineSize * row) (upTo codes row))
+      ∙ (ap (drop columns) (drop-at (rowsText row codes) (feeds (lineSize * (rows - row))) (lineSize * row) (rows-length row codes))
+      ∙ (feeds-dropped columns (lineSize * (rows - row)) ∙ ap feeds left))
 
-  behind : drop (41 * row + 40) (upTo characters row) ≡ lineFeed ++ feeds
-  unfolding upTo feeds lineFeeds
-  behind =
-      let taken = rows-taken characters row (omega arith) in
-      let left : 984 - 41 * row ≡ 40 + suc (984 - 41 * (row + 1)) = omega arith in
-      sym (drop-drop 40 (41 * row) (upTo characters row))
-      ∙ (ap (drop 40) (drop-at (take (41 * row) (pageText characters)) (lineFeeds (984 - 41 * row)) (41 * row) taken)
-      ∙ (ap (λ (n : ℕ). drop 40 (lineFeeds n)) left ∙ feeds-dropped 40 (suc (984 - 41 * (row + 1)))))
-
-  rows-before : take (41 * row) (upTo characters row) ≡ before
-  unfolding upTo before
-  rows-before =
-      let taken = rows-taken characters row (omega arith) in
-      take-at (take (41 * row) (pageText characters)) (lineFeeds (984 - 41 * row)) (41 * row) taken
-
-  one-more : upTo characters (row + 1) ≡ before ++ (bytes ++ (lineFeed ++ feeds))
-  unfolding upTo before bytes feeds rowText codes
+  one-more : upTo codes (row + 1) ≡ before ++ (printed (rowCodes codes row) .bytes ++ (lineFeed ++ behind))
+  unfolding upTo before behind rowText
   one-more =
-      let more : 41 * (row + 1) ≡ 41 * row + 41 = omega arith in
-      ap (λ (n : ℕ). take n (pageText characters) ++ feeds) more
-      ∙ (ap (λ (t : List ℕ). t ++ feeds) (take-add (41 * row) 41 (pageText characters) ∙ ap (λ (t : List ℕ). before ++ t) (row-next characters row h))
-      ∙ (append-assoc before (bytes ++ lineFeed) feeds ∙ ap (λ (t : List ℕ). before ++ t) (append-assoc bytes lineFeed feeds)))
+      let bytes = printed (rowCodes codes row) .bytes in
+      ap (λ (text : List ℕ). text ++ behind) (ap (λ (n : ℕ). rowsText n codes) (add-one row) ∙ rows-more row codes)
+      ∙ (append-assoc before (bytes ++ lineFeed) behind ∙ ap (λ (text : List ℕ). before ++ text) (append-assoc bytes lineFeed behind))
 
-  pub row-laid : (laid : List ℕ) → laid ≡ printed (take columns (drop (40 * row) characters)) .bytes
-      → paste (upTo characters row) (41 * row) laid 40 ≡ upTo characters (row + 1)
-  unfolding bytes
+  pub row-laid : (laid : List ℕ) → laid ≡ printed (rowCodes codes row) .bytes
+      → paste (upTo codes row) (lineSize * row) laid columns ≡ upTo codes (row + 1)
+  unfolding upTo before
   row-laid laid is =
-      let whole : take 40 laid ≡ bytes = ap (take 40) is ∙ take-all 40 bytes (let e = forty (take columns (drop (40 * row) characters)) in omega arith) in
-      append-assoc (take (41 * row) (upTo characters row)) (take 40 laid) (drop (41 * row + 40) (upTo characters row))
-      ∙ (ap (λ (t : List ℕ). t ++ (take 40 laid ++ drop (41 * row + 40) (upTo characters row))) rows-before
-      ∙ (ap (λ (t : List ℕ). before ++ (t ++ drop (41 * row + 40) (upTo characters row))) whole
-      ∙ (ap (λ (t : List ℕ). before ++ (bytes ++ t)) behind ∙ sym one-more)))
+      let bytes = printed (rowCodes codes row) .bytes in
+      let whole : take columns laid ≡ bytes = ap (take columns) is ∙ take-all columns bytes (let e = forty (rowCodes codes row) in omega arith) in
+      append-assoc (take (lineSize * row) (upTo codes row)) (take columns laid) (drop (lineSize * row + columns) (upTo codes row))
+      ∙ (ap (λ (text : List ℕ). text ++ (take columns laid ++ drop (lineSize * row + columns) (upTo codes row)))
+      (take-at (rowsText row codes) (feeds (lineSize * (rows - row))) (lineSize * row) (rows-length row codes))
+      ∙ (ap (λ (text : List ℕ). before ++ (text ++ drop (lineSize * row + columns) (upTo codes row))) whole
+      ∙ (ap (λ (text : List ℕ). before ++ (bytes ++ text)) dropped ∙ sym one-more)))

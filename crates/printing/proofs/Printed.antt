@@ -5,7 +5,8 @@ use mathlib.Core.List.{List, [], map}
 use Prim.Native.Nat.{ℕ}
 use lib.ListN.{length, replicate, length-map}
 use Rattle.laws.specs.Paper.{refusedBy}
-use Rattle.display.specs.Display.{Displayed, columns, isRow, zeroCells, displayed, rowAnswerPaper, rowPaper}
+use Rattle.grid.specs.Grid.{columns}
+use Rattle.display.specs.Display.{Displayed, isRow, zeroCells, displayed, rowAnswerPaper, rowPaper}
 use Rattle.display.specs.declared.Row.{Row}
 use Rattle.display.proofs.Rows.{refused-row, always-forty}
 use Rattle.printing.specs.Printed.{cellByte, printed}

@@ -10,6 +10,8 @@ use Rattle.display.specs.Display.{rowAnswerPaper}
 use Rattle.display.specs.declared.RowAnswer.{RowAnswer}
 use Rattle.display.specs.declared.RowAnswer.the-variants.{Shown, Refused}
 use Rattle.printing.specs.Printed.{Printed, printedPaper}
+use Rattle.printing.specs.Pages.{pagePaper}
+use Rattle.printing.specs.declared.PrintedPage.{PrintedPage}
 use Rattle.printing.specs.declared.PrintedRow.{PrintedRow}
 use Rattle.printing.proofs.printed_page as printed-page
 use Rattle.printing.proofs.printed_page.Reads as printed-page-reads
@@ -35,5 +37,16 @@ row-back row = back-answer (row .answer) row refl
 pub printed-row-unique : Unique printed-row.ended printed-row-reads.Post
 printed-row-unique κs a r r′ ws ws′ p q = (told-apart printedPaper rowBack row-back r r′ (p .0 ∙ sym (q .0)), refl)
 
+abbrev pageBack : Printed → PrintedPage
+pageBack page = record { answer = answerBack (page .answer .number); text = page .bytes }
+
+page-answer-back : (answer : RowAnswer) (page : PrintedPage) → page .answer ≡ answer → pageBack (pagePaper (record { answer = answer; text = page .text })) ≡ page
+unfolding pagePaper rowAnswerPaper
+page-answer-back Shown page e = rw (← e)
+page-answer-back Refused page e = rw (← e)
+
+page-back : (page : PrintedPage) → pageBack (pagePaper page) ≡ page
+page-back page = page-answer-back (page .answer) page refl
+
 pub printed-page-unique : Unique printed-page.ended printed-page-reads.Post
-printed-page-unique κs a r r′ ws ws′ p q = (p ∙ sym q, refl)
+printed-page-unique κs a r r′ ws ws′ p q = (told-apart pagePaper pageBack page-back r r′ (p .0 ∙ sym (q .0)), refl)

@@ -1,19 +1,19 @@
 // A row of a page as text, forty bytes, one for each cell; and a page, twenty-four such rows, each with a line feed.
-ghost use mathlib.Core.List.{map};
+ghost use mathlib.Core.List.{[], map};
 ghost use mathlib.Core.Path.{_≡_};
 ghost use Prim.Native.Nat.{_+_, _≤_};
-ghost use lib.ListN.{length};
+ghost use lib.ListN.{length, replicate};
 ghost use lib.Seq.{paste};
-ghost use Rattle.printing.specs.Pages.{pageText};
+ghost use Rattle.laws.specs.Paper.{refusedBy};
+ghost use Rattle.grid.specs.Grid.{columns};
+ghost use Rattle.printing.specs.Pages.{pagePaper, pageSize, printedPage};
 ghost use Rattle.printing.specs.Printed.{symbolByte, cellByte, printed, printedPaper};
-use display::COLUMNS;
 use display::Cell;
 use display::RowAnswer;
 use display::Symbol;
-
-pub const ROWS: usize = 24;
-
-pub const CELLS: usize = ROWS * COLUMNS;
+use grid::CELLS;
+use grid::COLUMNS;
+use grid::ROWS;
 
 // A row's text with its line feed.
 pub const LINE: usize = COLUMNS + 1;
@@ -24,6 +24,12 @@ pub const PAGE: usize = ROWS * LINE;
 pub struct PrintedRow {
     pub answer: RowAnswer,
     pub bytes: [u8; COLUMNS],
+}
+
+// An answer and the text beside it, which is zeros where the page was refused.
+pub struct PrintedPage {
+    pub answer: RowAnswer,
+    pub text: [u8; PAGE],
 }
 
 fn byte_of(symbol: Symbol) -> u8
@@ -44,7 +50,7 @@ fn byte_of(symbol: Symbol) -> u8
 }
 
 fn bytes_of(cells: [Cell; COLUMNS]) -> [u8; COLUMNS]
-    requires { ⌜ length cells ≡ 40 ⌝ }
+    requires { ⌜ length cells ≡ columns ⌝ }
     ensures { λ r. ⌜ r ≡ map cellByte cells ⌝ }
 {
     let mut bytes = [0u8; COLUMNS];
@@ -61,7 +67,7 @@ fn bytes_of(cells: [Cell; COLUMNS]) -> [u8; COLUMNS]
 // The text of a row's codes. The second promise is for callers, who lend the bytes on.
 pub fn printed_row(codes: &[u8]) -> PrintedRow
     ensures { λ r. ⌜ printedPaper r ≡ printed (now (codes .entry)) ⌝ }
-    ensures { λ r. ⌜ 40 ≡ length (r .bytes) ⌝ }
+    ensures { λ r. ⌜ columns ≡ length (r .bytes) ⌝ }
 {
     let row = display::row_of(codes);
     let answer = row.answer;
@@ -72,8 +78,8 @@ pub fn printed_row(codes: &[u8]) -> PrintedRow
 
 // A row's bytes in their place in a page's text.
 fn with_row(text: [u8; PAGE], from: usize, bytes: [u8; COLUMNS]) -> [u8; PAGE]
-    requires { ⌜ (from + 40 ≤ length text) × (length text ≡ 984) × (length bytes ≡ 40) ⌝ }
-    ensures { λ r. ⌜ r ≡ paste text from bytes 40 ⌝ }
+    requires { ⌜ (from + columns ≤ length text) × (length text ≡ pageSize) × (length bytes ≡ columns) ⌝ }
+    ensures { λ r. ⌜ r ≡ paste text from bytes columns ⌝ }
 {
     let mut result = text;
     let mut column = 0;
@@ -84,20 +90,42 @@ fn with_row(text: [u8; PAGE], from: usize, bytes: [u8; COLUMNS]) -> [u8; PAGE]
     result
 }
 
-// The text of a page's characters. It starts as line feeds alone, so that each row needs only its bytes.
-pub fn printed_page(characters: [u8; CELLS]) -> [u8; PAGE]
-    ensures { λ r. ⌜ r ≡ pageText characters ⌝ }
+fn refused_page() -> PrintedPage
+    ensures { λ r. ⌜ pagePaper r ≡ record { answer = refusedBy 25 []; bytes = replicate pageSize 0 } ⌝ }
 {
+    PrintedPage {
+        answer: RowAnswer::Refused,
+        text: [0; PAGE],
+    }
+}
+
+// The text of a page's codes. It starts as line feeds alone, so that each row needs only its bytes. The second promise is for callers, who lend the text on.
+pub fn printed_page(codes: &[u8]) -> PrintedPage
+    ensures { λ r. ⌜ pagePaper r ≡ printedPage (now (codes .entry)) ⌝ }
+    ensures { λ r. ⌜ pageSize ≡ length (r .text) ⌝ }
+{
+    if codes.len() != CELLS {
+        return refused_page();
+    }
     let mut text = [b'\n'; PAGE];
     let mut row = 0;
     while row < ROWS {
         let from = COLUMNS * row;
         let to = from + COLUMNS;
-        let line = printed_row(&characters[from..to]);
-        let bytes = line.bytes;
-        let more = with_row(text, LINE * row, bytes);
-        text = more;
+        let line = printed_row(&codes[from..to]);
+        let answer = line.answer;
+        match answer {
+            RowAnswer::Refused => return refused_page(),
+            RowAnswer::Shown => {
+                let bytes = line.bytes;
+                let more = with_row(text, LINE * row, bytes);
+                text = more;
+            }
+        }
         row += 1;
     }
-    text
+    PrintedPage {
+        answer: RowAnswer::Shown,
+        text,
+    }
 }

@@ -1,247 +1,287 @@
-// The receiving program: the page's number as its argument, a recording of data-lines on standard input. For each page that closes it says which, when and
-// how, and prints the page where it closed clean and no line was refused while it was open; at the end it says how many lines there were and how
-// many were refused.
-ghost use mathlib.Core.List.{List, _++_};
+// The receiving program: the page's number as its argument, a recording of data-lines on standard input. What is said of the pages that close goes to standard
+// output, as soon as the closing line has come; the counts at the end, complaints and hints go to standard error.
 ghost use mathlib.Core.Path.{_≡_};
-ghost use Prim.Native.Nat.{ℕ, _+_, _<_, _≤_};
+ghost use Prim.Native.Nat.{_+_, _≤_, _<_};
 ghost use lib.ListN.{length, take, drop};
-ghost use Rattle.announcing.specs.Told.{announced};
-use announcing::Asked;
-use announcing::HEADING;
-use announcing::Refused;
-use announcing::Told;
-use announcing::Watch;
-use libc::STDIN_FILENO;
-use libc::STDOUT_FILENO;
+ghost use Rattle.packet.specs.Lines.{lineLength};
+ghost use Rattle.page.specs.Records.{recordLength};
+ghost use Rattle.announcing.specs.Said.{said};
+ghost use Rattle.receive.specs.Feeding.{Carried, Feeds, Kept, Turned, chunkSize, fedFrom};
+use announcing::LONGEST;
+use asking::Asked;
+use console::Got;
 use packet::LINE_LENGTH;
 use page::RECORD_LENGTH;
-use receiver::Played;
 use receiver::Receiver;
 use receiver::Selected;
 use receiver::Selection;
+use watch::Watch;
 
-// Whole lines, so that only a recording's last line can be partial.
-const CHUNK: usize = 45 * 200;
+// So many lines are read at once, and there is room for what is said of them.
+const LINES: usize = 32;
+
+const CHUNK: usize = LINES * LINE_LENGTH;
+
+const ROOM: usize = LINES * LONGEST;
 
 // No page number is so long.
 const ARGUMENT: usize = 16;
 
-// The receiver between two chunks, and what is kept beside it.
+// The receiver between two lines, the watch beside it, and the record of the last page that closed.
 struct State {
     receiver: Receiver,
     watch: Watch,
+    record: [u8; RECORD_LENGTH],
 }
 
-// The state after a chunk, and how many bytes the chunk had.
+// The state after some lines, and whether what is said of them was written.
+struct Fed {
+    state: State,
+    written: bool,
+}
+
+// What comes after a turn of reading.
+enum Next {
+    More,
+    // The input ended or failed.
+    End,
+    // A write failed.
+    Stop,
+}
+
+// The state after a turn, and how many bytes of a line whose rest is to come lie at the chunk's start.
 struct Turn {
     state: State,
-    count: usize,
+    part: usize,
+    next: Next,
 }
 
-fn say(text: &[u8]) {
-    io::write_all(STDOUT_FILENO, text);
-}
-
-fn say_number(number: u64) {
-    io::print_decimal(STDOUT_FILENO, number);
-}
-
-// Prints a part of what is said of a page. The rest is there for the promise alone: that the part is the one that comes next.
-fn print(part: &[u8], told: Told, record: &[u8], printed: usize) -> usize
-    requires { ⌜ now part ≡ take (length (now part)) (drop printed (announced told (now «record»))) ⌝ }
-    ensures { λ r. ⌜ r ≡ length (now (part .entry)) ⌝ }
+// Writes what is said of some lines. The state and the lines are there for the promise alone: that the text is all that is said of them.
+fn write_said(text: &[u8], state: State, lines: &[u8]) -> bool
+    requires { ⌜ now text ≡ said (fedFrom state) (now lines) .text ⌝ }
 {
-    io::write_all(STDOUT_FILENO, part);
-    part.len()
+    console::say(text)
 }
 
-// Prints the line that says what closed: its heading, and its word with the line feed.
-fn print_line(heading: [u8; HEADING], word: &[u8], told: Told, record: &[u8]) -> usize
-    requires { ⌜ (length heading ≡ 18) × (length (now word) ≤ 100) ⌝ }
-    requires { ⌜ ((after : List ℕ) × (announced told (now «record») ≡ heading ++ (now word ++ after))) ⌝ }
-    ensures { λ r. ⌜ r ≡ 18 + length (now (word .entry)) ⌝ }
+// Enters some lines, and says what closes.
+fn feed(state: State, lines: &[u8]) -> Fed
+    requires { ⌜ (length (state .«record») ≡ recordLength) × (length (now lines) ≤ chunkSize) ⌝ }
+    ensures { λ r. ⌜ Feeds (said (fedFrom state) (now (lines .entry))) (r .state) ⌝ }
+    ensures { λ r. ⌜ length (r .state .«record») ≡ recordLength ⌝ }
 {
-    let before = print(&heading, told, record, 0);
-    before + print(word, told, record, before)
-}
-
-// Says what closed, from the record that was just written, and answers how many bytes that were.
-fn announce(told: Told, record: &[u8]) -> usize
-    ensures { λ r. ⌜ r ≡ length (announced told (now («record» .entry))) ⌝ }
-{
-    let read = page::read_record(record);
-    let page = read.page;
-    let header = page.header;
-    let heading = announcing::heading(page.magazine, header);
-    match told {
-        Told::Nothing => 0,
-        Told::Clean => {
-            let cells = page.cells;
-            let characters = cells.characters;
-            let text = printing::printed_page(characters);
-            let before = print_line(heading, b" clean\n", told, record);
-            before + print(&text, told, record, before)
-        }
-        Told::Doubt => print_line(heading, b" doubt\n", told, record),
-        Told::Missing => print_line(heading, b" doubt, lines are missing\n", told, record),
+    let receiver = state.receiver;
+    let watch = state.watch;
+    let mut record = state.record;
+    let mut room = [0u8; ROOM];
+    let announced = announcing::announce(receiver, watch, lines, &mut record, &mut room);
+    let length = announced.length;
+    let written = write_said(&room[..length], state, lines);
+    let next = announced.receiver;
+    let more = announced.watch;
+    let after = State {
+        receiver: next,
+        watch: more,
+        record,
+    };
+    Fed {
+        state: after,
+        written,
     }
 }
 
-// How far so many lines go in the rest of a chunk: a partial last line counts as a line. It is always some way, so that feeding ends.
-fn bytes_of(used: usize, rest: usize) -> usize
-    ensures { λ r. ⌜ (r ≤ rest) × (0 < rest → 0 < r) ⌝ }
+// Moves so many bytes from a place to the chunk's start: the part of a line whose rest is to come.
+fn carry(chunk: &mut [u8], from: usize, count: usize)
+    requires { ⌜ from + count ≤ length (now chunk) ⌝ }
+    ensures { λ _. ⌜ take count (now (chunk .exit)) ≡ take count (drop from (now (chunk .entry))) ⌝ }
 {
-    if used == 0 {
-        return rest;
+    let mut i = 0;
+    while i < count {
+        chunk[i] = chunk[from + i];
+        i += 1;
     }
-    if used > rest / LINE_LENGTH {
-        return rest;
-    }
-    used * LINE_LENGTH
 }
 
-// Feeds the lines of a chunk, and says what closes.
-fn feed(state: State, lines: &[u8], record: &mut [u8]) -> State
-    requires { ⌜ length (now lines) ≤ 9000 ⌝ }
-{
-    let mut receiver = state.receiver;
-    let mut watch = state.watch;
-    let mut at = 0;
-    while at < lines.len() {
-        let recorded = receiver::take_recording(receiver, &lines[at..], record);
-        let used = recorded.used;
-        let answer = recorded.answer;
-        let next = recorded.receiver;
-        receiver = next;
-        match answer {
-            Played::End => {
-                let all = announcing::watch_lines(watch, used);
-                return State {
-                    receiver,
-                    watch: all,
-                };
-            }
-            Played::Stopped(stop) => {
-                let told = announcing::text_for(stop, watch.gap);
-                announce(told, record);
-                let more = announcing::watch_stop(watch, used, receiver.open, stop);
-                watch = more;
-            }
-        }
-        at += bytes_of(used, lines.len() - at);
-    }
-    State { receiver, watch }
+fn next_after(written: bool) -> Next {
+    if written { Next::More } else { Next::Stop }
 }
 
-// Reads a chunk and feeds it.
-fn one_chunk(state: State, record: &mut [u8]) -> Turn {
-    let mut chunk = [0u8; CHUNK];
-    let count = io::read_full(STDIN_FILENO, &mut chunk);
-    let after = feed(state, &chunk[..count], record);
+// Feeds the whole lines among the chunk's first bytes, and carries the part behind them over.
+fn feed_whole(state: State, chunk: &mut [u8], full: usize) -> Turn
+    requires { ⌜ Kept state (now chunk) × (full ≤ chunkSize) ⌝ }
+    ensures { λ r. ⌜ Turned state (take full (now (chunk .entry))) r (now (chunk .exit)) ⌝ }
+    ensures { λ r. ⌜ Carried r (now (chunk .exit)) ⌝ }
+{
+    let part = full % LINE_LENGTH;
+    let whole = full - part;
+    let fed = feed(state, &chunk[..whole]);
+    carry(chunk, whole, part);
+    let after = fed.state;
+    let next = next_after(fed.written);
     Turn {
         state: after,
-        count,
+        part,
+        next,
     }
 }
 
-fn say_refused(number: &[u8], count: u64) {
-    say(number);
-    say_number(count);
-}
-
-fn say_lines(watch: Watch) {
-    let refused = watch.refused;
-    say_number(watch.lines);
-    say_refused(b" lines, refused by 10: ", refused.by10);
-    say_refused(b", by 11: ", refused.by11);
-    say_refused(b", by 12: ", refused.by12);
-    say_refused(b", by 18: ", refused.by18);
-    say(b"\n");
-}
-
-// What is said at the end: `partial` is how many bytes the last line has, where it is no whole one.
-fn say_end(watch: Watch, partial: usize) {
-    if watch.lines == 0 {
-        say(b"no lines on standard input\n");
-        return;
+// Reads some bytes behind the part of a line that is there, and feeds the whole lines.
+fn one_turn(state: State, chunk: &mut [u8], part: usize) -> Turn
+    requires { ⌜ Kept state (now chunk) × (part < lineLength) ⌝ }
+    ensures { λ r. ⌜ Carried r (now (chunk .exit)) ⌝ }
+{
+    match console::read_behind(chunk, part) {
+        Got::Bytes(more) => feed_whole(state, chunk, part + more),
+        Got::End => Turn {
+            state,
+            part,
+            next: Next::End,
+        },
+        Got::Failed => Turn {
+            state,
+            part,
+            next: Next::End,
+        },
     }
-    if partial > 0 {
-        say(b"the last line has ");
-        say_number(partial as u64);
-        say(b" bytes and not 45\n");
-    }
-    say_lines(watch);
-}
-
-// How many bytes a chunk has behind its last whole line; the chunk before it tells where this one is empty.
-fn partial_after(partial: usize, count: usize) -> usize {
-    if count == 0 {
-        return partial;
-    }
-    count % LINE_LENGTH
 }
 
 // None where the recording has ended.
-fn turns_left(turns: u64, count: usize) -> u64
+fn turns_left(turns: u64, next: Next) -> u64
     requires { ⌜ 0 < turns ⌝ }
     ensures { λ r. ⌜ r < turns ⌝ }
 {
-    if count == 0 {
-        return 0;
+    match next {
+        Next::More => turns - 1,
+        Next::End => 0,
+        Next::Stop => 0,
     }
-    turns - 1
 }
 
-fn receive(receiver: Receiver, record: &mut [u8]) {
-    let refused = Refused {
-        by10: 0,
-        by11: 0,
-        by12: 0,
-        by18: 0,
+// Reads and feeds until the input ends or fails, or a write fails.
+fn read_lines(state: State, chunk: &mut [u8]) -> Turn
+    requires { ⌜ Kept state (now chunk) ⌝ }
+    ensures { λ r. ⌜ Carried r (now (chunk .exit)) ⌝ }
+{
+    let next = Next::More;
+    let mut turn = Turn {
+        state,
+        part: 0,
+        next,
     };
-    let watch = Watch {
-        gap: false,
-        lines: 0,
-        refused,
-    };
-    let mut state = State { receiver, watch };
-    let mut partial = 0;
-    // More chunks than any recording has.
+    // More turns than any recording has.
     let mut turns: u64 = 18446744073709551615;
     while turns > 0 {
-        let turn = one_chunk(state, record);
-        let next = turn.state;
-        state = next;
-        let count = turn.count;
-        partial = partial_after(partial, count);
-        turns = turns_left(turns, count);
+        let before = turn.state;
+        let after = one_turn(before, chunk, turn.part);
+        turn = after;
+        let next = after.next;
+        turns = turns_left(turns, next);
     }
-    let last = state.watch;
-    say_end(last, partial);
+    turn
 }
 
-fn complain() {
-    say(b"not a page number: give 100 to 899, or 100/1234 with a time\n");
+fn complain_of(count: u64, one: &[u8], more: &[u8]) {
+    console::complain_number(count);
+    if count == 1 {
+        console::complain(one);
+    } else {
+        console::complain(more);
+    }
 }
 
-fn start(selection: Selection) {
+fn complain_refused(count: u64, by: &[u8]) {
+    if count > 0 {
+        console::complain(b", ");
+        console::complain_number(count);
+        console::complain(by);
+    }
+}
+
+// How many lines there were, and how many were refused. 12 and 18 never arise here.
+fn complain_counts(watch: Watch) {
+    complain_of(watch.lines, b" line", b" lines");
+    if watch.by10 == 0 {
+        if watch.by11 == 0 {
+            console::complain(b", none refused");
+        }
+    }
+    complain_refused(watch.by11, b" refused by 11");
+    complain_refused(watch.by10, b" refused by 10");
+    console::complain(b"\n");
+    if watch.by11 > watch.lines / 2 {
+        console::complain(b"most lines are refused by 11: the bytes may be in another order, or the recording of another kind\n");
+    }
+}
+
+fn complain_page(argument: &[u8], what: &[u8]) {
+    console::complain(b"page ");
+    console::complain(argument);
+    console::complain(what);
+}
+
+// What is said at the end: `part` is how many bytes the last line has, where it is no whole one.
+fn complain_at_end(state: State, part: usize, argument: &[u8]) {
+    let watch = state.watch;
+    let receiver = state.receiver;
+    if watch.lines == 0 {
+        console::complain(b"no lines on standard input\n");
+        return;
+    }
+    if part > 0 {
+        console::complain(b"the last line has ");
+        complain_of(part as u64, b" byte and not 45\n", b" bytes and not 45\n");
+    }
+    complain_counts(watch);
+    if receiver.open {
+        complain_page(argument, b" was still open at the end\n");
+    } else if watch.closed == 0 {
+        complain_page(argument, b" never came\n");
+    }
+}
+
+fn receive(receiver: Receiver, argument: &[u8]) {
+    let watch = Watch::new();
+    let record = [0u8; RECORD_LENGTH];
+    let state = State {
+        receiver,
+        watch,
+        record,
+    };
+    let mut chunk = [0u8; CHUNK];
+    let turn = read_lines(state, &mut chunk);
+    let part = turn.part;
+    let next = turn.next;
+    let before = turn.state;
+    if let Next::Stop = next {
+        return;
+    }
+    let last = feed(before, &chunk[..part]);
+    let after = last.state;
+    complain_at_end(after, part, argument);
+}
+
+fn complain_of_argument() {
+    console::complain(b"not a page number: give 100 to 899, or 100/1234 with a time\n");
+}
+
+fn start(selection: Selection, argument: &[u8]) {
     let new = Receiver::new(selection);
     let receiver = new.receiver;
     let answer = new.answer;
     match answer {
-        Selected::Ready => {
-            let mut record = [0u8; RECORD_LENGTH];
-            receive(receiver, &mut record);
-        }
-        Selected::OutOfRange => complain(),
+        Selected::Ready => receive(receiver, argument),
+        Selected::OutOfRange => complain_of_argument(),
     }
 }
 
 fn main() {
+    if os::arg_count() > 2 {
+        console::complain(b"one argument alone: give a page number, 100 to 899, or 100/1234 with a time\n");
+        return;
+    }
     let mut argument = [0u8; ARGUMENT];
     let count = os::arg(1, &mut argument);
-    match announcing::page_asked(&argument[..count]) {
-        Asked::Page(selection) => start(selection),
-        Asked::NoPage => complain(),
+    match asking::page_asked(&argument[..count]) {
+        Asked::Page(selection) => start(selection, &argument[..count]),
+        Asked::NoPage => complain_of_argument(),
     }
 }

@@ -1,23 +1,45 @@
--- What the answer to the asking of the cells shows of them.
-use mathlib.Core.Path.{_≡_, refl, sym, ap, ap₂, _∙_}
-use mathlib.Core.Bool.{Bool, true, false, cond, _&&_, and-assoc}
-use mathlib.Core.List.{List, _++_}
+-- From what the code of an entry asked, looked at and did to what its definition gives.
+use mathlib.Core.Path.{_≡_, refl, sym, ap, ap₂, _∙_, subst}
+use mathlib.Core.Bool.{Bool, true, false, cond, not, _&&_, and-assoc}
+use mathlib.Core.List.{List}
 use mathlib.Core.Option.{Option, none, some}
-use Prim.Native.Nat.{ℕ}
-use lib.Dec.{eqb}
-use lib.ListN.{drop}
-use Rattle.laws.specs.Paper.{Paper}
+use Prim.Native.Nat.{ℕ, _≤_}
+use native.Mathlib.Omega.{arith}
+use borrow.Author.Tests.{eq-eqb, eqb-true, le-ltb, ltb-false}
+use lib.Dec.{eqb, ltb}
+use lib.ListN.{length}
+use Rattle.laws.specs.Paper.{Paper, accepted}
 use Rattle.laws.proofs.Inverse.{told-apart}
+use Rattle.packet.specs.Addresses.{addressOf}
+use Rattle.packet.specs.Lines.{framed, packetLength, packetOf}
+use Rattle.packet.specs.declared.Framed.{Framed}
+use Rattle.packet.specs.declared.Framed.the-variants as framed
 use Rattle.page.specs.Lawful.{cellsFit, cellsLawful, cellsChecked, cellsPaper, headerFits}
-use Rattle.page.specs.Records.{recordLength, recordOf}
+use Rattle.page.specs.Records.{recordLength}
 use Rattle.page.specs.declared.Cells.{Cells}
 use Rattle.page.specs.declared.CellsCheck.{CellsCheck}
 use Rattle.page.specs.declared.CellsCheck.the-variants.{Lawful, TooLarge, Unlawful}
-use Rattle.receiver.specs.Private.{bothLawful, stateOf}
-use Rattle.receiver.specs.Entries.{lawful, stateLawful}
-use Rattle.receiver.specs.Lines.{closed, held, lentAfter, shut}
+use Rattle.receiver.specs.Effects.{Outcome, taken}
+use Rattle.receiver.specs.Entries.{Entered, Meets, answerPaper, asked, entered, lawful, lineBy, lineValues, packetTaken, refusal, stateLawful}
+use Rattle.receiver.specs.Kinds.{seen}
+use Rattle.receiver.specs.Private.{Does, answerOf, askedOf, bothLawful, isClosing, joined, lookedBy, lookedLine, lookedPacket}
+use Rattle.receiver.specs.Recordings.{goesOn}
 use Rattle.receiver.specs.Selections.{inRange}
+use Rattle.receiver.specs.declared.Answer.{Answer}
+use Rattle.receiver.specs.declared.Answer.the-variants as answer
+use Rattle.receiver.specs.declared.Closing.{Closing}
+use Rattle.receiver.specs.declared.Closing.the-variants as closing
 use Rattle.receiver.specs.declared.Receiver.{Receiver}
+use Rattle.receiver.specs.declared.Stepped.{Stepped}
+use Rattle.receiver.specs.declared.asking.Asking.{Asking}
+use Rattle.receiver.specs.declared.asking.Asking.the-variants as asking
+use Rattle.receiver.specs.declared.effects.Done.{Done}
+use Rattle.receiver.specs.declared.kinds.Seen.{Seen}
+use Rattle.receiver.specs.declared.looking.Looked.{Looked}
+use Rattle.receiver.specs.declared.looking.Looked.the-variants as looked
+use Rattle.receiver.proofs.Entering.{length-packet}
+
+-- ---- the cells that 18 asks
 
 abbrev byNumber : Option ℕ → CellsCheck
 byNumber none = TooLarge
@@ -40,28 +62,174 @@ by-tests true true = refl
 by-tests true false = refl
 by-tests false lawful = refl
 
-pub asked-cells : (cells : Cells) (answer known : CellsCheck) → cellsPaper answer ≡ cellsPaper (cellsChecked cells) → answer ≡ known → says known ≡ bothLawful cells
+pub asked-cells : (cells : Cells) (answer known : CellsCheck) → cellsPaper answer ≡ cellsPaper (cellsChecked cells) → answer ≡ known
+    → says known ≡ bothLawful cells
 unfolding bothLawful cellsChecked
 asked-cells cells answer known e k =
-    let same : cellsChecked cells ≡ known = sym (told-apart cellsPaper (λ (p : Paper). byNumber (p .number)) check-back answer (cellsChecked cells) e) ∙ k in
+    let told = told-apart cellsPaper (λ (p : Paper). byNumber (p .number)) check-back answer (cellsChecked cells) e in
+    let same : cellsChecked cells ≡ known = sym told ∙ k in
     sym (by-tests (cellsFit cells) (cellsLawful cells) ∙ ap says same)
 
 -- the four answers together are what 18 asks
 pub all-asked : (receiver : Receiver) (range state fits cells : Bool) → range ≡ inRange (receiver .selection)
-    → state ≡ stateOf (receiver .selection) (receiver .«open») (receiver .doubt) (receiver .header)
+    → state ≡ stateLawful receiver
     → fits ≡ headerFits (receiver .header) → cells ≡ bothLawful (receiver .cells) → (range && state && fits && cells) ≡ lawful receiver
-unfolding lawful stateOf bothLawful
+unfolding lawful bothLawful
 all-asked receiver range state fits cells a b c d =
-    ap₂ _&&_ (ap₂ _&&_ (ap₂ _&&_ a b) c) d
-    ∙ sym (and-assoc (inRange (receiver .selection) && stateLawful receiver && headerFits (receiver .header)) (cellsFit (receiver .cells)) (cellsLawful (receiver .cells)))
+    let before = inRange (receiver .selection) && stateLawful receiver && headerFits (receiver .header) in
+    ap₂ _&&_ (ap₂ _&&_ (ap₂ _&&_ a b) c) d ∙ sym (and-assoc before (cellsFit (receiver .cells)) (cellsLawful (receiver .cells)))
 
--- ---- closing, by whether a page is open
+-- ---- 18 and 12
 
-module _ (receiver : Receiver) {isOpen : Bool} (o : receiver .«open» ≡ isOpen) where
-  pub closed-by : cond isOpen (shut receiver) receiver ≡ closed receiver
-  unfolding closed
-  closed-by = sym (ap (λ (b : Bool). cond b (shut receiver) receiver) o)
+pub meets : {e f : Entered} (s : Stepped) (lent : List ℕ) → e ≡ f → Meets e s lent → Meets f s lent
+meets s lent e m = subst (λ (x : Entered). Meets x s lent) e m
 
-  pub lent-by : (lent : List ℕ) → cond isOpen (recordOf (held receiver) ++ drop recordLength lent) lent ≡ lentAfter receiver lent
-  unfolding lentAfter
-  lent-by lent = sym (ap (λ (b : Bool). cond b (recordOf (held receiver) ++ drop recordLength lent) lent) o)
+-- the receiver handed in, with an answer
+abbrev pub handedBack : Receiver → Answer → Stepped
+handedBack receiver answer = record { receiver = receiver; answer = answer }
+
+refused-as : (receiver : Receiver) (lent : List ℕ) (number : ℕ) (known given : Answer) → known ≡ given → answerPaper known ≡ refusal number receiver lent .answer
+    → Meets (refusal number receiver lent) (handedBack receiver given) lent
+unfolding refusal
+refused-as receiver lent number known given e p = record { answered = ap answerPaper (sym e) ∙ p; kept = refl; left = refl }
+
+module _ (receiver : Receiver) (lent : List ℕ) (further : Entered) where
+  abbrev by-tests-asked : Bool → Bool → Asking
+  by-tests-asked isLawful short = cond isLawful (cond short (asking.Refused answer.ShortRecord) asking.Fine) (asking.Refused answer.Unlawful)
+
+  abbrev by-tests-given : Bool → Bool → Entered
+  by-tests-given isLawful short = cond isLawful (cond short (refusal 12 receiver lent) further) (refusal 18 receiver lent)
+
+  refused-by : (isLawful short : Bool) (given : Answer) → by-tests-asked isLawful short ≡ asking.Refused given
+      → Meets (by-tests-given isLawful short) (handedBack receiver given) lent
+  unfolding refusal answerPaper
+  refused-by true true given e = refused-as receiver lent 12 answer.ShortRecord given (cc) refl
+  refused-by true false given e = absurd (let z : _≡_ {A = ℕ} 0 1 = cc in omega arith)
+  refused-by false short given e = refused-as receiver lent 18 answer.Unlawful given (cc) refl
+
+  pub asked-refused : (given : Answer) → askedOf receiver (length lent) ≡ asking.Refused given → Meets (asked receiver lent further) (handedBack receiver given) lent
+  unfolding asked askedOf
+  asked-refused given e = refused-by (lawful receiver) (ltb (length lent) recordLength) given e
+
+  fine-by : (isLawful short : Bool) → by-tests-asked isLawful short ≡ asking.Fine → (isLawful ≡ true) × (short ≡ false)
+  fine-by true true e = absurd (let z : _≡_ {A = ℕ} 0 1 = cc in omega arith)
+  fine-by true false e = (refl, refl)
+  fine-by false short e = absurd (let z : _≡_ {A = ℕ} 0 1 = cc in omega arith)
+
+  pub asked-on : lawful receiver ≡ true → recordLength ≤ length lent → further ≡ asked receiver lent further
+  unfolding asked
+  asked-on e h = sym (ap₂ by-tests-given e (le-ltb (length lent) recordLength h))
+
+pub fine : (receiver : Receiver) (lent : List ℕ) → askedOf receiver (length lent) ≡ asking.Fine → (lawful receiver ≡ true) × (recordLength ≤ length lent)
+unfolding askedOf
+fine receiver lent e =
+    let both = fine-by receiver lent (refusal 18 receiver lent) (lawful receiver) (ltb (length lent) recordLength) e in
+    (both .0, ltb-false (length lent) recordLength (both .1))
+
+-- ---- 10 and 11
+
+-- what follows, by what a packet was seen to be
+abbrev pub Looking : Receiver → List ℕ → List ℕ → Entered → Looked → Type 0
+Looking receiver packet lent further (looked.Refused given) = Meets further (handedBack receiver given) lent
+Looking receiver packet lent further (looked.Shows shows) =
+    (length packet ≡ packetLength) × (shows ≡ seen (receiver .selection .magazine) (addressOf packet)) × (further ≡ entered (taken receiver packet lent))
+
+module _ (receiver : Receiver) (lent : List ℕ) where
+  looking-by : (packet : List ℕ) (whole : Bool) → eqb (length packet) packetLength ≡ whole
+      → Looking receiver packet lent (cond whole (entered (taken receiver packet lent)) (refusal 10 receiver lent))
+      (cond whole (looked.Shows (seen (receiver .selection .magazine) (addressOf packet))) (looked.Refused answer.WrongLength))
+  unfolding refusal answerPaper
+  looking-by packet true w = (eqb-true (length packet) packetLength w, refl, refl)
+  looking-by packet false w = record { answered = refl; kept = refl; left = refl }
+
+  pub packet-looks : (packet : List ℕ) → Looking receiver packet lent (packetTaken receiver packet lent) (lookedPacket (receiver .selection .magazine) packet)
+  unfolding packetTaken lookedPacket
+  packet-looks packet = looking-by packet (eqb (length packet) packetLength) refl
+
+  line-by : (line : List ℕ) (f : Framed) → framed line ≡ f
+      → Looking receiver (packetOf line) lent (lineBy f receiver line lent) (lookedBy f (receiver .selection .magazine) line)
+  unfolding lineBy lookedBy packetTaken refusal answerPaper
+  line-by line framed.Packet e =
+      let whole = length-packet line e in
+      (whole, refl, ap (λ (b : Bool). cond b (entered (taken receiver (packetOf line) lent)) (refusal 10 receiver lent)) (eq-eqb (length (packetOf line)) packetLength whole))
+  line-by line framed.WrongLength e = record { answered = refl; kept = refl; left = refl }
+  line-by line framed.WrongFraming e = record { answered = refl; kept = refl; left = refl }
+
+  pub line-looks : (line : List ℕ)
+      → Looking receiver (packetOf line) lent (lineBy (framed line) receiver line lent) (lookedLine (receiver .selection .magazine) line)
+  unfolding lookedLine
+  line-looks line = line-by line (framed line) refl
+
+-- ---- what was done
+
+pub done-meets : {outcome : Outcome} (done : Done) {characters marks lent : List ℕ} → Does outcome done characters marks lent
+    → Meets (entered outcome) (record { receiver = joined (done .standing) characters marks; answer = answerOf done }) lent
+unfolding entered answerPaper
+done-meets done d =
+    record {
+      answered = λ i. accepted (lineValues (d .kind i) (d .count i) (d .word i));
+      kept = d .kept;
+      left = d .left;
+    }
+
+-- ---- an entry, whose receiver was taken apart
+
+module _ (receiver current : Receiver) (same : current ≡ receiver) (lent : List ℕ) (further : Receiver → Entered) where
+  pub entry-refused : (given : Answer) → askedOf current (length lent) ≡ asking.Refused given
+      → Meets (asked receiver lent (further receiver)) (handedBack receiver given) lent
+  entry-refused given e =
+      subst (λ (r : Receiver). Meets (asked r lent (further r)) (handedBack r given) lent) same (asked-refused current lent (further current) given e)
+
+  pub entry-goes : askedOf current (length lent) ≡ asking.Fine → (s : Stepped) (left : List ℕ) → Meets (further current) s left
+      → Meets (asked receiver lent (further receiver)) s left
+  entry-goes e s left m =
+      let is = fine current lent e in
+      subst (λ (r : Receiver). Meets (asked r lent (further r)) s left) same (meets s left (asked-on current lent (further current) (is .0) (is .1)) m)
+
+  -- 10 and 11
+  pub entry-looked : askedOf current (length lent) ≡ asking.Fine → (given : Answer) → Meets (further current) (handedBack current given) lent
+      → Meets (asked receiver lent (further receiver)) (handedBack receiver given) lent
+  entry-looked e given m =
+      entry-goes e (handedBack receiver given) lent (subst (λ (r : Receiver). Meets (further current) (handedBack r given) lent) same m)
+
+  -- and what the line did
+  pub entry-done : askedOf current (length lent) ≡ asking.Fine → (packet : List ℕ) → further current ≡ entered (taken current packet lent)
+      → (part : List ℕ) → part ≡ packet → (done : Done) (characters marks left : List ℕ) → Does (taken current part lent) done characters marks left
+      → (after : Receiver) → after ≡ joined (done .standing) characters marks → (given : Answer) → given ≡ answerOf done
+      → Meets (asked receiver lent (further receiver)) (record { receiver = after; answer = given }) left
+  entry-done e packet f part p done characters marks left d after a given g =
+      entry-goes e (record { receiver = after; answer = given }) left
+      (meets (record { receiver = after; answer = given }) left (ap (λ (x : List ℕ). entered (taken current x lent)) p ∙ sym f)
+      (subst (λ (s : Stepped). Meets (entered (taken current part lent)) s left) (λ i. record { receiver = sym a i; answer = sym g i }) (done-meets done d)))
+
+-- ---- where playing stops
+
+pub goes-on-is : (kind count : ℕ) (word : Closing) → goesOn (answerPaper (answer.Taken kind count word)) ≡ not (isClosing word)
+unfolding goesOn answerPaper isClosing
+goes-on-is kind count closing.None = refl
+goes-on-is kind count closing.Clean = refl
+goes-on-is kind count closing.Doubt = refl
+
+stops-by : (ours : ℕ) (line : List ℕ) (f : Framed) (given : Answer) → lookedBy f ours line ≡ looked.Refused given → goesOn (answerPaper given) ≡ false
+unfolding lookedBy goesOn answerPaper
+stops-by ours line framed.Packet given e = absurd (let z : _≡_ {A = ℕ} 0 1 = cc in omega arith)
+stops-by ours line framed.WrongLength given e = ap (λ (a : Answer). goesOn (answerPaper a)) (sym {a = answer.WrongLength} {b = given} (cc))
+stops-by ours line framed.WrongFraming given e = ap (λ (a : Answer). goesOn (answerPaper a)) (sym {a = answer.WrongFraming} {b = given} (cc))
+
+-- a line that is refused
+pub refused-stops : (ours : ℕ) (line : List ℕ) (given : Answer) → lookedLine ours line ≡ looked.Refused given → goesOn (answerPaper given) ≡ false
+unfolding lookedLine
+refused-stops ours line given e = stops-by ours line (framed line) given e
+
+stops-asked : (isLawful short : Bool) (given : Answer)
+    → cond isLawful (cond short (asking.Refused answer.ShortRecord) asking.Fine) (asking.Refused answer.Unlawful) ≡ asking.Refused given
+    → goesOn (answerPaper given) ≡ false
+unfolding goesOn answerPaper
+stops-asked true true given e = ap (λ (a : Answer). goesOn (answerPaper a)) (sym {a = answer.ShortRecord} {b = given} (cc))
+stops-asked true false given e = absurd (let z : _≡_ {A = ℕ} 0 1 = cc in omega arith)
+stops-asked false short given e = ap (λ (a : Answer). goesOn (answerPaper a)) (sym {a = answer.Unlawful} {b = given} (cc))
+
+-- and one that 18 or 12 refuses
+pub asked-stops : (receiver : Receiver) (room : ℕ) (given : Answer) → askedOf receiver room ≡ asking.Refused given → goesOn (answerPaper given) ≡ false
+unfolding askedOf
+asked-stops receiver room given e = stops-asked (lawful receiver) (ltb room recordLength) given e

@@ -8,13 +8,15 @@ use native.Mathlib.Omega.{arith}
 use lib.Dec.{lit<}
 use lib.ListN.{getD}
 use Rattle.coding.specs.Characters.{character}
-use Rattle.packet.specs.Texts.{columns, headerColumn, textOf}
+use Rattle.grid.specs.Grid.{columns}
+use Rattle.packet.specs.Texts.{headerColumn, textOf}
 use Rattle.page.specs.declared.Cells.{Cells}
-use Rattle.receiver.specs.Cells.{firstColumn, fresh, oneMissing, rowFound, stored}
-use Rattle.receiver.specs.Lines.{Outcome, closed, headerTaken, opened, rowStored, textTaken}
+use Rattle.page.specs.Lawful.{fresh}
+use Rattle.receiver.specs.Cells.{firstColumn, oneMissing, rowFound, stored}
+use Rattle.receiver.specs.Effects.{Outcome, closed, headerTaken, opened, rowStored, textTaken}
 use Rattle.receiver.specs.declared.Receiver.{Receiver}
-use Rattle.receiver.proofs.Effects.{Opens, Stores}
 use Rattle.receiver.proofs.Marks.{none-fresh-at, opened-none-fresh}
+use Rattle.receiver.proofs.Outcomes.{Opens, Stores}
 use Rattle.receiver.proofs.Rows.{Stays, characterAt, length-found, markAt, place, stored-other-row, text-first}
 use Rattle.receiver.proofs.Sized.{Sized, closed-cells, opened-sized}
 use Rattle.receiver.proofs.Undoubted.{all-counted, length-text, stored-fresh}

@@ -11,9 +11,11 @@ use Rattle.coding.specs.Bits.{odd}
 use Rattle.coding.specs.Characters.{character}
 use Rattle.packet.specs.Texts.{headerColumn, textOf}
 use Rattle.receiver.specs.Cells.{firstColumn, howMany, rowFound}
-use Rattle.receiver.specs.Lines.{Outcome, headerTaken, justClosed, nothing, taken, textTaken}
+use Rattle.receiver.specs.Effects.{Outcome, effected, headerTaken, justClosed, taken, textTaken, unclosed}
 use Rattle.receiver.specs.declared.Receiver.{Receiver}
-use Rattle.receiver.proofs.Effects.{by-effects, kind-1-stores, kind-2-opens}
+use Rattle.receiver.specs.declared.kinds.Effect.{Effect}
+use Rattle.receiver.specs.declared.kinds.Effect.the-variants.{Nothing, Store, Open, Close, Doubt}
+use Rattle.receiver.proofs.Outcomes.{by-doubt, by-effects, kind-1-stores, kind-2-opens}
 use Rattle.receiver.proofs.Rows.{text-first}
 
 -- how many bytes have an odd count of ones
@@ -55,16 +57,17 @@ module _ (receiver : Receiver) (packet lent : List ℕ) where
   kind-2-count e =
       ap (λ (o : Outcome). o .count) (kind-2-opens receiver packet lent e .gives) ∙ count-is-odd-bytes 0 (textOf packet .bytes)
 
-  -- 0 where none are stored
-  pub none-stored-none-counted : (taken receiver packet lent .kind ≡ 1 → ⊥) → (taken receiver packet lent .kind ≡ 2 → ⊥) → taken receiver packet lent .count ≡ 0
-  unfolding nothing textTaken headerTaken justClosed
-  none-stored-none-counted =
-      by-effects receiver packet lent (λ (o : Outcome). (o .kind ≡ 1 → ⊥) → (o .kind ≡ 2 → ⊥) → o .count ≡ 0)
-      (λ p n m. refl)
-      (λ row t n m. absurd (n refl))
-      (λ a found r t n m. absurd (m refl))
-      (λ a found r t n m. refl)
-      (λ a r n m. refl)
-      (λ a r n m. refl)
-      (λ u o n m. refl)
-      (λ could u o n m. refl)
+-- where nothing is stored nothing is counted
+abbrev NoCount : Outcome → Type 0
+NoCount outcome = (outcome .kind ≡ 1 → ⊥) → (outcome .kind ≡ 2 → ⊥) → outcome .count ≡ 0
+
+no-count-by : (receiver : Receiver) (e : Effect) (bytes lent : List ℕ) → NoCount (effected receiver e bytes lent)
+unfolding effected unclosed textTaken headerTaken justClosed
+no-count-by receiver Nothing bytes lent = λ n m. refl
+no-count-by receiver (Store row) bytes lent = λ n m. absurd (n refl)
+no-count-by receiver (Open header) bytes lent = λ n m. absurd (m refl)
+no-count-by receiver (Close kind) bytes lent = λ n m. refl
+no-count-by receiver (Doubt could) bytes lent = by-doubt receiver lent NoCount could (λ o t n m. refl) (λ o t n m. refl) (λ o n m. refl)
+
+pub none-stored-none-counted : (receiver : Receiver) (packet lent : List ℕ) → NoCount (taken receiver packet lent)
+none-stored-none-counted receiver packet lent = by-effects receiver packet lent NoCount (λ e. no-count-by receiver e (textOf packet .bytes) lent)

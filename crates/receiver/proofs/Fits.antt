@@ -8,11 +8,11 @@ use lib.Dec.{T, eqb, lit<}
 use lib.ListN.{getD, length}
 use Rattle.laws.proofs.Digits.{AreBits, binary-below, bits-append}
 use Rattle.laws.proofs.Keeps.{chosen, fit-passes}
-use Rattle.coding.specs.Bits.{bit}
+use Rattle.laws.specs.Digits.{bit}
 use Rattle.coding.specs.Hamming.{message}
 use Rattle.coding.proofs.Hamming.{Small, small}
-use Rattle.packet.specs.Headers.{allGood, before, controlOf, headerFrom, headerMessages, headerOf, headerOr, headerValues, lowestFirst}
-use Rattle.packet.specs.Lines.{packetBytes, packetLength}
+use Rattle.packet.specs.Headers.{allGood, before, controlBytes, controlOf, headerFrom, headerMessages, headerOf, headerOr, headerValues, lowestFirst}
+use Rattle.packet.specs.Lines.{packetLength}
 use Rattle.packet.specs.declared.Header.{Header}
 use Rattle.packet.specs.declared.HeaderRead.{HeaderRead}
 use Rattle.packet.specs.declared.HeaderRead.the-variants.{Good, Spoiled, WrongLength}
@@ -96,7 +96,7 @@ read-fits : (packet : List ℕ) → FitsRead (headerOf packet)
 unfolding headerOf headerMessages
 read-fits packet =
     chosen FitsRead (eqb (length packet) packetLength) (headerOr (allGood (headerMessages packet))) WrongLength
-    (λ t. or-fits (allGood (headerMessages packet)) (messages-small (packetBytes packet 3 8)))
+    (λ t. or-fits (allGood (headerMessages packet)) (messages-small (controlBytes packet)))
     (λ t. tt)
 
 pub header-fits : (packet : List ℕ) (found : Header) → headerOf packet ≡ Good found → T (headerFits found)

@@ -2,8 +2,8 @@
 use mathlib.Core.Path.{_≡_, refl, subst, sym}
 use mathlib.Core.Bool.{false, not, _&&_}
 use mathlib.Core.List.{List}
-use Prim.Native.Nat.{ℕ}
-use lib.Dec.{T, T-not}
+use Prim.Native.Nat.{ℕ, _≤_}
+use lib.Dec.{T, T-not, leb, leb→le}
 use Rattle.laws.proofs.Bools.{both-left, both-right}
 use Rattle.laws.proofs.Keeps.{both, chosen, chosen-first, first-chosen}
 use Rattle.packet.specs.Headers.{zeroHeader}
@@ -11,13 +11,15 @@ use Rattle.packet.specs.Texts.{textOf}
 use Rattle.packet.specs.declared.Header.{Header}
 use Rattle.page.specs.Lawful.{cellsFit, cellsLawful, headerFits}
 use Rattle.receiver.specs.Cells.{aged, blank}
-use Rattle.receiver.specs.Entries.{isZero, lawful, made, newReceiver, stateLawful, zeroReceiver}
-use Rattle.receiver.specs.Lines.{Outcome, clears, closed, doubted, headerTaken, justClosed, nothing, opened, rowStored, shut, taken, textTaken}
-use Rattle.receiver.specs.Selections.{inRange, matches}
+use Rattle.receiver.specs.Entries.{isZero, lawful, made, newReceiver, stateLawful, stateOf, zeroReceiver}
+use Rattle.receiver.specs.Effects.{Outcome, clears, closed, doubted, effected, headerTaken, justClosed, opened, rowStored, shut, taken, textTaken, unclosed}
+use Rattle.receiver.specs.Selections.{inRange, matches, whenInRange}
 use Rattle.receiver.specs.declared.Receiver.{Receiver}
 use Rattle.receiver.specs.declared.Selection.{Selection}
-use Rattle.receiver.proofs.Effects.{by-effects}
+use Rattle.receiver.specs.declared.kinds.Effect.{Effect}
+use Rattle.receiver.proofs.Causes.{Cause, another, no-header, other-header, page-header, page-row, spoiled-header, unopened-row, unsure-line}
 use Rattle.receiver.proofs.Fits.{header-fits}
+use Rattle.receiver.proofs.Outcomes.{after, by-causes, by-doubt}
 use Rattle.receiver.proofs.Sound.{Sound, aged-sound, blank-sound, stored-sound}
 
 -- ---- what 18 asks, part by part
@@ -56,6 +58,18 @@ whole receiver p =
     let e = cellsLawful (receiver .cells) in
     both (a && b && c && d) e (both (a && b && c) d (both (a && b) c (both a b (p .range) (p .state)) (p .fits)) (p .sound .0)) (p .sound .1)
 
+-- our magazine is 1 to 8
+pub our-magazine : (receiver : Receiver) → T (lawful receiver) → (1 ≤ receiver .selection .magazine) × (receiver .selection .magazine ≤ 8)
+unfolding inRange
+our-magazine receiver t =
+    let low = leb 1 (receiver .selection .magazine) in
+    let high = leb (receiver .selection .magazine) 8 in
+    let tens = leb (receiver .selection .tens) 9 in
+    let units = leb (receiver .selection .units) 9 in
+    let four = both-left (low && high && tens && units) (whenInRange (receiver .selection .when)) (parts receiver t .range) in
+    let two = both-left (low && high) tens (both-left (low && high && tens) units four) in
+    (leb→le 1 (receiver .selection .magazine) (both-left low high two), leb→le (receiver .selection .magazine) 8 (both-right low high two))
+
 zero-fits : T (headerFits zeroHeader)
 unfolding headerFits zeroHeader
 zero-fits = tt
@@ -67,7 +81,7 @@ zero-is-zero = tt
 -- ---- a new receiver
 
 pub new-lawful : (selection : Selection) → T (inRange selection) → T (lawful (newReceiver selection))
-unfolding newReceiver stateLawful
+unfolding newReceiver stateLawful stateOf
 new-lawful selection t =
     whole (newReceiver selection) (record { range = t; state = zero-is-zero; fits = zero-fits; sound = blank-sound })
 
@@ -85,7 +99,7 @@ zero-unlawful = refl
 -- ---- closing, opening, storing and doubting
 
 pub shut-lawful : (receiver : Receiver) → T (lawful receiver) → T (lawful (shut receiver))
-unfolding shut stateLawful
+unfolding shut stateLawful stateOf
 shut-lawful receiver t =
     let p = parts receiver t in
     whole (shut receiver) (record { range = p .range; state = zero-is-zero; fits = zero-fits; sound = p .sound })
@@ -103,7 +117,7 @@ closed-selection receiver =
 
 pub opened-lawful : (receiver : Receiver) (header : Header) → T (lawful receiver) → T (matches (receiver .selection) header)
     → T (headerFits header) → T (lawful (opened receiver header))
-unfolding opened stateLawful
+unfolding opened stateLawful stateOf
 opened-lawful receiver header t m f =
     let p = parts receiver t in
     whole (opened receiver header)
@@ -120,14 +134,14 @@ opened-open receiver header = tt
 
 -- the header of an open page matches
 pub open-matches : (receiver : Receiver) → T (lawful receiver) → T (receiver .«open») → T (matches (receiver .selection) (receiver .header))
-unfolding stateLawful
+unfolding stateLawful stateOf
 open-matches receiver t o =
     chosen-first (receiver .«open») (matches (receiver .selection) (receiver .header)) (not (receiver .doubt) && isZero (receiver .header)) o
     (parts receiver t .state)
 
 pub stored-lawful : (receiver : Receiver) (row : ℕ) (bytes : List ℕ) → T (lawful receiver) → T (receiver .«open»)
     → T (lawful (rowStored receiver row bytes))
-unfolding rowStored stateLawful
+unfolding rowStored stateLawful stateOf
 stored-lawful receiver row bytes t o =
     let p = parts receiver t in
     whole (rowStored receiver row bytes)
@@ -139,7 +153,7 @@ stored-lawful receiver row bytes t o =
     })
 
 pub doubted-lawful : (receiver : Receiver) → T (lawful receiver) → T (receiver .«open») → T (lawful (doubted receiver))
-unfolding doubted stateLawful
+unfolding doubted stateLawful stateOf
 doubted-lawful receiver t o =
     let p = parts receiver t in
     whole (doubted receiver)
@@ -162,17 +176,21 @@ module _ (receiver : Receiver) (is : T (lawful receiver)) (lent : List ℕ) wher
       (subst (λ (s : Selection). T (matches s found)) (sym (closed-selection receiver)) m) f)
       (opened-open (closed receiver) found)
 
+  lawful-by : (packet : List ℕ) (e : Effect) → Cause receiver packet e → T (lawful (after receiver packet lent e .receiver))
+  unfolding effected unclosed textTaken justClosed
+  lawful-by packet e (another p) = is
+  lawful-by packet e (unopened-row row t o) = is
+  lawful-by packet e (no-header a r) = is
+  lawful-by packet e (page-row row t o) = stored-lawful receiver row (textOf packet .bytes) is (rw o tt)
+  lawful-by packet e (page-header found a r m) = header-taken-lawful found (textOf packet .bytes) (header-fits packet found r) (rw m tt)
+  lawful-by packet e (other-header found a r m) = closed-lawful receiver is
+  lawful-by packet e (spoiled-header a r) = closed-lawful receiver is
+  lawful-by packet e (unsure-line could u) =
+      by-doubt receiver lent (λ (o : Outcome). T (lawful (o .receiver))) could
+      (λ o t. closed-lawful (doubted receiver) (doubted-lawful receiver is (rw o tt)))
+      (λ o t. doubted-lawful receiver is (rw o tt))
+      (λ o. is)
+
   -- a lawful receiver stays lawful, whatever the packet
   pub taken-lawful : (packet : List ℕ) → T (lawful (taken receiver packet lent .receiver))
-  unfolding nothing textTaken justClosed
-  taken-lawful packet =
-      by-effects receiver packet lent (λ (o : Outcome). T (lawful (o .receiver)))
-      (λ p. is)
-      (λ row t. stored-lawful receiver row (textOf packet .bytes) is (t .with-open))
-      (λ a found r m. header-taken-lawful found (textOf packet .bytes) (header-fits packet found r) m)
-      (λ a found r m. closed-lawful receiver is)
-      (λ a r. closed-lawful receiver is)
-      (λ a r. is)
-      (λ u o. closed-lawful (doubted receiver) (doubted-lawful receiver is o))
-      (λ could u o.
-      chosen (λ (r : Receiver). T (lawful r)) (receiver .«open») (doubted receiver) receiver (doubted-lawful receiver is) (λ n. is))
+  taken-lawful packet = by-causes receiver packet lent (λ (o : Outcome). T (lawful (o .receiver))) (lawful-by packet)

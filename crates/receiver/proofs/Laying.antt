@@ -1,74 +1,76 @@
--- Laying what was found over the cells, one cell after the other.
+-- Laying what was found over one half of the cells, one cell after the other; and how many were found.
 use mathlib.Core.Path.{_≡_, refl, sym, ap, _∙_}
-use mathlib.Core.Bool.{Bool, true, false, cond}
-use mathlib.Core.List.{List, [], _∷_, map}
+use mathlib.Core.List.{List, [], _∷_}
 use mathlib.Core.Option.{Option, none, some}
-use Prim.Native.Nat.{ℕ, zero, suc, _+_, _-_, _≤_, _<_, zero-le}
+use Prim.Native.Nat.{ℕ, zero, suc, _+_, _≤_, _<_, zero-le}
 use native.Mathlib.Nat.{suc-add, zero-add, le-of-suc-le-suc, not-suc-le-zero}
 use native.Mathlib.Numerals.{add-one}
 use native.Mathlib.Omega.{arith}
-use borrow.Author.Tests.{lt-ltb, le-ltb}
-use lib.Dec.{eqb, leb, ltb, leb·suc-suc, lit≤}
-use lib.ListN.{length, getD, set, take, drop, length-drop, length-map}
-use lib.Seq.{getD-drop, take-length}
-use Rattle.laws.proofs.Lists.{getD-map}
-use Rattle.coding.specs.Characters.{character}
-use Rattle.receiver.specs.Cells.{firstColumn, laid, howMany, oneMissing}
-use Rattle.receiver.specs.Private.{foundFrom, one}
+use borrow.Author.Tests.{lt-ltb}
+use lib.Dec.{leb, ltb, leb·suc-suc, lit≤}
+use lib.ListN.{length, getD, set, take, drop}
+use Rattle.receiver.specs.Cells.{laid, howMany, oneMissing}
+use Rattle.receiver.specs.Private.{one}
 
-module _ (keep : Option ℕ → ℕ → ℕ) where
-  pub length-laid : (place : ℕ) (found : List (Option ℕ)) (cells : List ℕ) → length (laid keep place found cells) ≡ length cells
-  unfolding laid
-  length-laid zero [] cells = refl
-  length-laid zero (f ∷ found) [] = refl
-  length-laid zero (f ∷ found) (c ∷ cells) = ap suc (length-laid zero found cells)
-  length-laid (suc place) found [] = refl
-  length-laid (suc place) found (c ∷ cells) = ap suc (length-laid place found cells)
-
+module _ (keep : Option ℕ → ℕ → ℕ → ℕ) where
   -- the first cell that is not laid over yet
-  next-first : (found : List (Option ℕ)) (cells : List ℕ) (k : ℕ) → k < length found → getD (laid keep zero (take k found) cells) k 0 ≡ getD cells k 0
+  next-first : (found : List (Option ℕ)) (half others : List ℕ) (k : ℕ) → k < length found
+      → getD (laid keep zero (take k found) half others) k 0 ≡ getD half k 0
   unfolding laid
-  next-first [] cells k h = absurd (not-suc-le-zero h)
-  next-first (f ∷ found) cells zero h = refl
-  next-first (f ∷ found) [] (suc k) h = refl
-  next-first (f ∷ found) (c ∷ cells) (suc k) h = next-first found cells k (le-of-suc-le-suc h)
+  next-first [] half others k h = absurd (not-suc-le-zero h)
+  next-first (f ∷ found) half others zero h = refl
+  next-first (f ∷ found) [] others (suc k) h = refl
+  next-first (f ∷ found) (c ∷ half) others (suc k) h = next-first found half (drop 1 others) k (le-of-suc-le-suc h)
 
-  next : (place : ℕ) (found : List (Option ℕ)) (cells : List ℕ) (k : ℕ) → k < length found → getD (laid keep place (take k found) cells) (place + k) 0 ≡ getD cells (place + k) 0
+  pub laid-next : (place : ℕ) (found : List (Option ℕ)) (half others : List ℕ) (k : ℕ) → k < length found
+      → getD (laid keep place (take k found) half others) (place + k) 0 ≡ getD half (place + k) 0
   unfolding laid
-  next zero found cells k h = rw (zero-add k) (next-first found cells k h)
-  next (suc place) found [] k h = refl
-  next (suc place) found (c ∷ cells) k h = rw (suc-add place k) (next place found cells k h)
+  laid-next zero found half others k h = rw (zero-add k) (next-first found half others k h)
+  laid-next (suc place) found [] others k h = refl
+  laid-next (suc place) found (c ∷ half) others k h = rw (suc-add place k) (laid-next place found half (drop 1 others) k h)
+
+  further : (found : Option ℕ) (cell : ℕ) (others : List ℕ) (k : ℕ) → keep found cell (getD others (suc k) 0) ≡ keep found cell (getD (drop 1 others) k 0)
+  further found cell [] k = refl
+  further found cell (o ∷ others) k = refl
 
   -- and one cell more
-  more-first : (found : List (Option ℕ)) (cells : List ℕ) (k : ℕ) → k < length found
-      → set (laid keep zero (take k found) cells) k (keep (getD found k none) (getD cells k 0)) ≡ laid keep zero (take (suc k) found) cells
+  more-first : (found : List (Option ℕ)) (half others : List ℕ) (k : ℕ) → k < length found
+      → set (laid keep zero (take k found) half others) k (keep (getD found k none) (getD half k 0) (getD others k 0))
+      ≡ laid keep zero (take (suc k) found) half others
   unfolding laid
-  more-first [] cells k h = absurd (not-suc-le-zero h)
-  more-first (f ∷ found) [] zero h = refl
-  more-first (f ∷ found) (c ∷ cells) zero h = refl
-  more-first (f ∷ found) [] (suc k) h = refl
-  more-first (f ∷ found) (c ∷ cells) (suc k) h = ap {B = List ℕ} (λ xs. keep f c ∷ xs) (more-first found cells k (le-of-suc-le-suc h))
+  more-first [] half others k h = absurd (not-suc-le-zero h)
+  more-first (f ∷ found) [] others zero h = refl
+  more-first (f ∷ found) (c ∷ half) others zero h = refl
+  more-first (f ∷ found) [] others (suc k) h = refl
+  more-first (f ∷ found) (c ∷ half) others (suc k) h =
+      ap {B = List ℕ} (λ v. keep f c (getD others 0 0) ∷ set (laid keep zero (take k found) half (drop 1 others)) k v)
+      (further (getD found k none) (getD half k 0) others k)
+      ∙ ap {B = List ℕ} (λ xs. keep f c (getD others 0 0) ∷ xs) (more-first found half (drop 1 others) k (le-of-suc-le-suc h))
 
-  more : (place : ℕ) (found : List (Option ℕ)) (cells : List ℕ) (k : ℕ) → k < length found
-      → set (laid keep place (take k found) cells) (place + k) (keep (getD found k none) (getD cells (place + k) 0)) ≡ laid keep place (take (suc k) found) cells
+  more : (place : ℕ) (found : List (Option ℕ)) (half others : List ℕ) (k : ℕ) → k < length found
+      → set (laid keep place (take k found) half others) (place + k) (keep (getD found k none) (getD half (place + k) 0) (getD others (place + k) 0))
+      ≡ laid keep place (take (suc k) found) half others
   unfolding laid
-  more zero found cells k h = rw (zero-add k) (more-first found cells k h)
-  more (suc place) found [] k h = refl
-  more (suc place) found (c ∷ cells) k h = rw (suc-add place k) (ap {B = List ℕ} (λ xs. c ∷ xs) (more place found cells k h))
+  more zero found half others k h = rw (zero-add k) (more-first found half others k h)
+  more (suc place) found [] others k h = refl
+  more (suc place) found (c ∷ half) others k h =
+      rw (suc-add place k)
+      (ap {B = List ℕ} (λ v. c ∷ set (laid keep place (take k found) half (drop 1 others)) (place + k) v)
+      (further (getD found k none) (getD half (place + k) 0) others (place + k))
+      ∙ ap {B = List ℕ} (λ xs. c ∷ xs) (more place found half (drop 1 others) k h))
 
   -- the code's store
-  pub laid-more : (place : ℕ) (found : List (Option ℕ)) (cells : List ℕ) (k : ℕ) → k < length found → (xs : List ℕ) (v : ℕ)
-      → xs ≡ laid keep place (take k found) cells → v ≡ keep (getD found k none) (getD xs (place + k) 0)
-      → set xs (place + k) v ≡ laid keep place (take (k + 1) found) cells
-  laid-more place found cells k h xs v e w =
-      rw (w, e, next place found cells k h, add-one k) (more place found cells k h)
+  pub laid-more : (place : ℕ) (found : List (Option ℕ)) (half others : List ℕ) (k : ℕ) → k < length found → (xs : List ℕ) (v : ℕ)
+      → xs ≡ laid keep place (take k found) half others → v ≡ keep (getD found k none) (getD half (place + k) 0) (getD others (place + k) 0)
+      → set xs (place + k) v ≡ laid keep place (take (k + 1) found) half others
+  laid-more place found half others k h xs v e w = rw (w, e, add-one k) (more place found half others k h)
 
-  -- nothing laid, and all
-  pub laid-none : (place : ℕ) (found : List (Option ℕ)) (cells : List ℕ) → cells ≡ laid keep place (take 0 found) cells
+  -- nothing laid
+  pub laid-none : (place : ℕ) (half others : List ℕ) → half ≡ laid keep place [] half others
   unfolding laid
-  laid-none zero found cells = refl
-  laid-none (suc place) found [] = refl
-  laid-none (suc place) found (c ∷ cells) = ap {B = List ℕ} (λ xs. c ∷ xs) (laid-none place found cells)
+  laid-none zero half others = refl
+  laid-none (suc place) [] others = refl
+  laid-none (suc place) (c ∷ half) others = ap {B = List ℕ} (λ xs. c ∷ xs) (laid-none place half (drop 1 others))
 
 -- ---- counting
 
@@ -103,26 +105,3 @@ missing-is (some c ∷ found) = missing-is found ∙ shifted (howMany found) (le
   where
     shifted : (a b : ℕ) → ltb a b ≡ ltb (1 + a) (suc b)
     shifted a b = sym (leb·suc-suc (suc a) b) ∙ ap (λ (n : ℕ). leb (suc n) (suc b)) (omega arith)
-
--- ---- what a row's bytes hold
-
-module _ (first : ℕ) (bytes : List ℕ) (whole : length bytes ≡ 40) where
-  pub length-found : length (foundFrom first bytes) ≡ 40 - first
-  unfolding foundFrom
-  length-found = length-map (drop first bytes) character ∙ (length-drop first bytes ∙ ap (λ (n : ℕ). n - first) whole)
-
-  pub found-at : (k : ℕ) → k < 40 - first → getD (foundFrom first bytes) k none ≡ character (getD bytes (first + k) 0)
-  unfolding foundFrom
-  found-at k h =
-      getD-map character (drop first bytes) k none 0 (rw (length-drop first bytes, whole) h)
-      ∙ ap character (getD-drop first bytes k 0)
-
--- ---- where a row's characters start
-
-pub first-most : (row : ℕ) → firstColumn row ≤ 8
-unfolding firstColumn
-first-most row = either (eqb row 0)
-  where
-    either : (b : Bool) → cond b 8 0 ≤ 8
-    either true = lit≤ tt
-    either false = lit≤ tt

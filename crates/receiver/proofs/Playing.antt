@@ -19,7 +19,7 @@ use Rattle.receiver.specs.declared.Played.the-variants.{End, Stopped}
 use Rattle.receiver.specs.declared.Receiver.{Receiver}
 use Rattle.receiver.specs.declared.Recorded.{Recorded}
 use Rattle.receiver.specs.declared.Stepped.{Stepped}
-use Rattle.receiver.proofs.Asking.{asked-on, meets}
+use Rattle.receiver.proofs.Asked.{asked-on, meets}
 use Rattle.receiver.proofs.Entering.{line-lawful}
 
 -- ---- a line of a recording, and what follows it

@@ -11,17 +11,20 @@ use Rattle.laws.proofs.Bools.{both-left, both-right}
 use Rattle.laws.proofs.Every.{every-at}
 use Rattle.laws.proofs.Keeps.{chosen, chosen-second, failed}
 use Rattle.packet.specs.Headers.{headerValues, zeroHeader}
-use Rattle.packet.specs.Texts.{columns, textOf}
+use Rattle.grid.specs.Grid.{columns}
+use Rattle.packet.specs.Texts.{textOf}
 use Rattle.packet.specs.declared.Header.{Header}
 use Rattle.receiver.specs.Cells.{howMany, rowFound}
-use Rattle.receiver.specs.Entries.{isZero, lawful, stateLawful}
-use Rattle.receiver.specs.Lines.{Outcome, closed, doubted, headerTaken, justClosed, nothing, shut, taken, textTaken, unsureTaken}
+use Rattle.receiver.specs.Entries.{isZero, lawful, stateLawful, stateOf}
+use Rattle.receiver.specs.Effects.{Outcome, closed, doubted, effected, headerTaken, justClosed, shut, taken, textTaken, unclosed, unsureTaken}
 use Rattle.receiver.specs.Selections.{matches}
 use Rattle.receiver.specs.declared.Closing.the-variants as closing
 use Rattle.receiver.specs.declared.Receiver.{Receiver}
-use Rattle.receiver.proofs.Effects.{by-effects}
+use Rattle.receiver.specs.declared.kinds.Effect.{Effect}
+use Rattle.receiver.specs.declared.kinds.Effect.the-variants.{Nothing, Store, Open, Close, Doubt}
 use Rattle.receiver.proofs.Lawful.{parts}
 use Rattle.receiver.proofs.Laying.{count-most}
+use Rattle.receiver.proofs.Outcomes.{by-doubt, by-effects}
 use Rattle.receiver.proofs.Rows.{length-found}
 use Rattle.receiver.proofs.Undoubted.{length-text}
 
@@ -54,9 +57,11 @@ zero-header header t =
 
 module _ (receiver : Receiver) (is : T (lawful receiver)) where
   pub none-open-rests : receiver .«open» ≡ false → receiver ≡ shut receiver
-  unfolding stateLawful shut
+  unfolding stateLawful stateOf shut
   none-open-rests o =
-      let state = chosen-second (receiver .«open») (matches (receiver .selection) (receiver .header)) (not (receiver .doubt) && isZero (receiver .header)) (subst (λ (b : Bool). T (not b)) (sym o) tt) (parts receiver is .state) in
+      let resting = not (receiver .doubt) && isZero (receiver .header) in
+      let shut-now = subst (λ (b : Bool). T (not b)) (sym o) tt in
+      let state = chosen-second (receiver .«open») (matches (receiver .selection) (receiver .header)) resting shut-now (parts receiver is .state) in
       let doubt = failed (receiver .doubt) (both-left (not (receiver .doubt)) (isZero (receiver .header)) state) in
       let header = zero-header (receiver .header) (both-right (not (receiver .doubt)) (isZero (receiver .header)) state) in
       λ i.
@@ -76,45 +81,28 @@ module _ (receiver : Receiver) (is : T (lawful receiver)) where
       (λ o. none-open-rests (failed (receiver .«open») o))
 
 -- an unsure line with none open is of kind 4 and changes nothing
-pub unsure-unopened : (receiver : Receiver) (could : Bool) (lent : List ℕ) → receiver .«open» ≡ false
-    → unsureTaken receiver could lent ≡ record { receiver = receiver; kind = 4; count = 0; closing = closing.None; lent = lent }
+pub unsure-unopened : (receiver : Receiver) (could : Bool) (lent : List ℕ) → receiver .«open» ≡ false → unsureTaken receiver could lent ≡ unclosed receiver 4 lent
 unfolding unsureTaken
 unsure-unopened receiver could lent o = ap by o
   where
     by : Bool → Outcome
     by isOpen =
-        cond (isOpen && could) (justClosed (doubted receiver) 4 lent)
-        (record { receiver = cond isOpen (doubted receiver) receiver; kind = 4; count = 0; closing = closing.None; lent = lent })
+        cond isOpen (cond could (justClosed (doubted receiver) 4 lent) (unclosed (doubted receiver) 4 lent)) (unclosed receiver 4 lent)
 
 -- ---- sizes
 
-module _ (receiver : Receiver) (packet lent : List ℕ) where
-  pub kind-most : taken receiver packet lent .kind ≤ 5
-  unfolding nothing textTaken headerTaken justClosed
-  kind-most =
-      by-effects receiver packet lent (λ (o : Outcome). o .kind ≤ 5)
-      (λ p. lit≤ tt)
-      (λ row t. lit≤ tt)
-      (λ a found r m. lit≤ tt)
-      (λ a found r m. lit≤ tt)
-      (λ a r. lit≤ tt)
-      (λ a r. lit≤ tt)
-      (λ u o. lit≤ tt)
-      (λ could u o. lit≤ tt)
+row-count : (packet : List ℕ) (row : ℕ) → howMany (rowFound row (textOf packet .bytes)) ≤ columns
+row-count packet row =
+    omega (arith, count-most (rowFound row (textOf packet .bytes)), length-found row (textOf packet .bytes) (length-text packet))
 
-  row-count : (row : ℕ) → howMany (rowFound row (textOf packet .bytes)) ≤ columns
-  row-count row =
-      omega (arith, count-most (rowFound row (textOf packet .bytes)), length-found row (textOf packet .bytes) (length-text packet))
+counted-by : (receiver : Receiver) (packet lent : List ℕ) (e : Effect) → effected receiver e (textOf packet .bytes) lent .count ≤ columns
+unfolding effected unclosed textTaken headerTaken justClosed
+counted-by receiver packet lent Nothing = lit≤ tt
+counted-by receiver packet lent (Store row) = row-count packet row
+counted-by receiver packet lent (Open header) = row-count packet 0
+counted-by receiver packet lent (Close kind) = lit≤ tt
+counted-by receiver packet lent (Doubt could) =
+    by-doubt receiver lent (λ (o : Outcome). o .count ≤ columns) could (λ o t. lit≤ tt) (λ o t. lit≤ tt) (λ o. lit≤ tt)
 
-  pub count-at-most : taken receiver packet lent .count ≤ columns
-  unfolding nothing textTaken headerTaken justClosed
-  count-at-most =
-      by-effects receiver packet lent (λ (o : Outcome). o .count ≤ columns)
-      (λ p. lit≤ tt)
-      (λ row t. row-count row)
-      (λ a found r m. row-count 0)
-      (λ a found r m. lit≤ tt)
-      (λ a r. lit≤ tt)
-      (λ a r. lit≤ tt)
-      (λ u o. lit≤ tt)
-      (λ could u o. lit≤ tt)
+pub count-at-most : (receiver : Receiver) (packet lent : List ℕ) → taken receiver packet lent .count ≤ columns
+count-at-most receiver packet lent = by-effects receiver packet lent (λ (o : Outcome). o .count ≤ columns) (counted-by receiver packet lent)

@@ -7,15 +7,17 @@ use Rattle.laws.proofs.Keeps.{chosen}
 use Rattle.packet.specs.Texts.{textOf}
 use Rattle.packet.specs.declared.Header.{Header}
 use Rattle.page.specs.Lawful.{never, space}
-use Rattle.page.specs.Records.{cellCount}
+use Rattle.grid.specs.Grid.{cellCount}
 use Rattle.page.specs.declared.Cells.{Cells}
 use Rattle.receiver.specs.Cells.{age, aged, blank, keptCharacter, keptMark, rowFound, rowPlace, stored}
 use Rattle.receiver.specs.Entries.{newReceiver}
-use Rattle.receiver.specs.Lines.{Outcome, clears, closed, doubted, headerTaken, justClosed, nothing, opened, rowStored, shut, taken, textTaken}
+use Rattle.receiver.specs.Effects.{Outcome, clears, closed, doubted, effected, headerTaken, justClosed, opened, rowStored, shut, taken, textTaken, unclosed}
 use Rattle.receiver.specs.declared.Receiver.{Receiver}
 use Rattle.receiver.specs.declared.Selection.{Selection}
-use Rattle.receiver.proofs.Effects.{by-effects}
-use Rattle.receiver.proofs.Laying.{length-laid}
+use Rattle.receiver.specs.declared.kinds.Effect.{Effect}
+use Rattle.receiver.specs.declared.kinds.Effect.the-variants.{Nothing, Store, Open, Close, Doubt}
+use Rattle.receiver.proofs.Laid.{length-laid}
+use Rattle.receiver.proofs.Outcomes.{by-doubt, by-effects}
 
 abbrev pub Sized : Cells → Type 0
 Sized cells = (length (cells .characters) ≡ cellCount) × (length (cells .marks) ≡ cellCount)
@@ -31,8 +33,8 @@ aged-sized cells s = (s .0, length-map (cells .marks) age ∙ s .1)
 pub stored-sized : (row : ℕ) (bytes : List ℕ) (cells : Cells) → Sized cells → Sized (stored row bytes cells)
 unfolding stored
 stored-sized row bytes cells s = (
-  length-laid keptCharacter (rowPlace row) (rowFound row bytes) (cells .characters) ∙ s .0,
-  length-laid keptMark (rowPlace row) (rowFound row bytes) (cells .marks) ∙ s .1,
+  length-laid keptCharacter (rowPlace row) (rowFound row bytes) (cells .characters) (cells .marks) ∙ s .0,
+  length-laid keptMark (rowPlace row) (rowFound row bytes) (cells .marks) (cells .characters) ∙ s .1,
 )
 
 pub new-sized : (selection : Selection) → Sized (newReceiver selection .cells)
@@ -53,22 +55,19 @@ module _ (receiver : Receiver) (is : Sized (receiver .cells)) where
   closed-sized : Sized (closed receiver .cells)
   closed-sized = rw (closed-cells receiver) is
 
-  pub taken-sized : (packet lent : List ℕ) → Sized (taken receiver packet lent .receiver .cells)
-  unfolding nothing textTaken headerTaken justClosed rowStored doubted
-  taken-sized packet lent =
-      by-effects receiver packet lent (λ (o : Outcome). Sized (o .receiver .cells))
-      (λ p. is)
-      (λ row t. stored-sized row (textOf packet .bytes) (receiver .cells) is)
-      (λ a found r m.
-      stored-sized 0 (textOf packet .bytes) (opened (closed receiver) found .cells) (opened-sized (closed receiver) found closed-sized))
-      (λ a found r m. closed-sized)
-      (λ a r. closed-sized)
-      (λ a r. is)
-      (λ u o. doubted-closed)
-      (λ could u o. chosen (λ (x : Receiver). Sized (x .cells)) (receiver .«open») (doubted receiver) receiver (λ t. doubted-sized) (λ t. is))
-    where
-      doubted-sized : Sized (doubted receiver .cells)
-      doubted-sized = is
+  effected-sized : (e : Effect) (bytes lent : List ℕ) → Sized (effected receiver e bytes lent .receiver .cells)
+  unfolding effected unclosed textTaken headerTaken justClosed rowStored doubted
+  effected-sized Nothing bytes lent = is
+  effected-sized (Store row) bytes lent = stored-sized row bytes (receiver .cells) is
+  effected-sized (Open header) bytes lent =
+      stored-sized 0 bytes (opened (closed receiver) header .cells) (opened-sized (closed receiver) header closed-sized)
+  effected-sized (Close kind) bytes lent = closed-sized
+  effected-sized (Doubt could) bytes lent =
+      by-doubt receiver lent (λ (o : Outcome). Sized (o .receiver .cells)) could
+      (λ o t. rw (closed-cells (doubted receiver)) is)
+      (λ o t. is)
+      (λ o. is)
 
-      doubted-closed : Sized (closed (doubted receiver) .cells)
-      doubted-closed = rw (closed-cells (doubted receiver)) doubted-sized
+  pub taken-sized : (packet lent : List ℕ) → Sized (taken receiver packet lent .receiver .cells)
+  taken-sized packet lent =
+      by-effects receiver packet lent (λ (o : Outcome). Sized (o .receiver .cells)) (λ e. effected-sized e (textOf packet .bytes) lent)

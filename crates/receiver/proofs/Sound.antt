@@ -15,11 +15,12 @@ use Rattle.laws.proofs.Bools.{both-left, both-right}
 use Rattle.laws.proofs.Keeps.{both, chosen, every-map, every-mapped, every-pair-map, every-pair-replicate, every-replicate, take-map}
 use Rattle.coding.specs.Bits.{odd}
 use Rattle.coding.specs.Characters.{character}
-use Rattle.page.specs.Lawful.{cellLawful, cellsFit, cellsLawful, isNever, never, space}
-use Rattle.page.specs.Records.{cellCount, characterWidth, markWidth}
+use Rattle.page.specs.Lawful.{cellLawful, cellsFit, cellsLawful, isFresh, isNever, never, older, space}
+use Rattle.grid.specs.Grid.{cellCount}
+use Rattle.page.specs.Records.{characterWidth, markWidth}
 use Rattle.page.specs.declared.Cells.{Cells}
 use Rattle.packet.specs.Texts.{headerColumn}
-use Rattle.receiver.specs.Cells.{age, aged, blank, firstColumn, keptCharacter, keptMark, laid, older, rowFound, rowPlace, stored}
+use Rattle.receiver.specs.Cells.{age, aged, blank, firstColumn, keptCharacter, keptMark, laid, rowFound, rowPlace, stored}
 use Rattle.receiver.proofs.Laid.{every-laid, every-pair-laid, take-laid}
 
 -- ---- the cells
@@ -56,17 +57,17 @@ unfolding rowFound
 found-small row bytes = every-mapped small character character-small (drop (firstColumn row) bytes)
 
 -- what is kept of a cell is as lawful as what was there
-kept-mark : (f : Option ℕ) (m : ℕ) → T (small f) → T (fits markWidth m) → T (fits markWidth (keptMark f m))
+kept-mark : (f : Option ℕ) (m c : ℕ) → T (small f) → T (fits markWidth m) → T (fits markWidth (keptMark f m c))
 unfolding keptMark fits
-kept-mark none m s t = t
-kept-mark (some c) m s t = tt
+kept-mark none m c s t = t
+kept-mark (some new) m c s t = tt
 
-kept-character : (f : Option ℕ) (c : ℕ) → T (small f) → T (fits characterWidth c) → T (fits characterWidth (keptCharacter f c))
+kept-character : (f : Option ℕ) (c m : ℕ) → T (small f) → T (fits characterWidth c) → T (fits characterWidth (keptCharacter f c m))
 unfolding keptCharacter
-kept-character none c s t = t
-kept-character (some new) c s t = s
+kept-character none c m s t = t
+kept-character (some new) c m s t = s
 
-kept-cell : (f : Option ℕ) (m c : ℕ) → T (cellLawful m c) → T (cellLawful (keptMark f m) (keptCharacter f c))
+kept-cell : (f : Option ℕ) (m c : ℕ) → T (cellLawful m c) → T (cellLawful (keptMark f m c) (keptCharacter f c m))
 unfolding keptMark keptCharacter cellLawful
 kept-cell none m c t = t
 kept-cell (some new) m c t = tt
@@ -84,23 +85,24 @@ stored-sound row bytes cells s =
     let charactersFit = every (fits characterWidth) (cells .characters) in
     let pairs = everyPair cellLawful (cells .marks) (cells .characters) in
     let head = every isNever (take headerColumn (cells .marks)) in
-    let marks = laid keptMark (rowPlace row) (rowFound row bytes) (cells .marks) in
-    let characters = laid keptCharacter (rowPlace row) (rowFound row bytes) (cells .characters) in (
+    let marks = laid keptMark (rowPlace row) (rowFound row bytes) (cells .marks) (cells .characters) in
+    let characters = laid keptCharacter (rowPlace row) (rowFound row bytes) (cells .characters) (cells .marks) in (
       both (every (fits markWidth) marks) (every (fits characterWidth) characters)
-          (every-laid keptMark small (fits markWidth) kept-mark (rowPlace row) (rowFound row bytes) (cells .marks) (found-small row bytes)
-          (both-left marksFit charactersFit (s .0)))
-          (every-laid keptCharacter small (fits characterWidth) kept-character (rowPlace row) (rowFound row bytes) (cells .characters)
+          (every-laid keptMark small (fits markWidth) kept-mark (rowPlace row) (rowFound row bytes) (cells .marks) (cells .characters)
+          (found-small row bytes) (both-left marksFit charactersFit (s .0)))
+          (every-laid keptCharacter small (fits characterWidth) kept-character (rowPlace row) (rowFound row bytes) (cells .characters) (cells .marks)
           (found-small row bytes) (both-right marksFit charactersFit (s .0))),
       both (everyPair cellLawful marks characters) (every isNever (take headerColumn marks))
           (every-pair-laid keptMark keptCharacter cellLawful kept-cell (rowPlace row) (rowFound row bytes) (cells .marks) (cells .characters)
           (both-left pairs head (s .1)))
-          (rw (take-laid keptMark headerColumn (rowPlace row) (rowFound row bytes) (cells .marks) (header-kept row)) (both-right pairs head (s .1))),
+          (rw (take-laid keptMark headerColumn (rowPlace row) (rowFound row bytes) (cells .marks) (cells .characters) (header-kept row))
+          (both-right pairs head (s .1))),
     )
 
 -- fresh becomes older, and every other mark stays
 age-cases : (P : ℕ → Type 0) (m : ℕ) → P older → P m → P (age m)
 unfolding age
-age-cases P m p q = chosen P (eqb m 2) older m (λ t. p) (λ t. q)
+age-cases P m p q = chosen P (isFresh m) older m (λ t. p) (λ t. q)
 
 aged-fits : (m : ℕ) → T (fits markWidth m) → T (fits markWidth (age m))
 unfolding fits
@@ -111,8 +113,8 @@ unfolding cellLawful
 aged-lawful m c t = age-cases (λ (n : ℕ). T (cellLawful n c)) m tt t
 
 aged-never : (m : ℕ) → T (isNever m) → T (isNever (age m))
-unfolding isNever age
-aged-never m t = rw (eqb→eq m 0 t) tt
+unfolding isNever age isFresh
+aged-never m t = rw (eqb→eq m never t) tt
 
 pub aged-sound : (cells : Cells) → Sound cells → Sound (aged cells)
 unfolding cellsFit cellsLawful aged

@@ -12,12 +12,13 @@ use lib.Dec.{eqb, eqb→eq}
 use Rattle.laws.proofs.Keeps.{chosen}
 use Rattle.coding.specs.Characters.{character}
 use Rattle.packet.specs.Lines.{packetLength}
-use Rattle.packet.specs.Texts.{columns, textOf}
+use Rattle.grid.specs.Grid.{columns, rows}
+use Rattle.packet.specs.Texts.{textOf}
 use Rattle.packet.specs.declared.Text.{Text}
 use Rattle.packet.proofs.Bytes.{length-bytes}
-use Rattle.page.specs.Records.{rows}
 use Rattle.page.specs.declared.Cells.{Cells}
-use Rattle.receiver.specs.Cells.{firstColumn, fresh, howMany, oneMissing, rowFound, stored}
+use Rattle.page.specs.Lawful.{fresh}
+use Rattle.receiver.specs.Cells.{firstColumn, howMany, oneMissing, rowFound, stored}
 use Rattle.receiver.proofs.Laying.{count-most, missing-is}
 use Rattle.receiver.proofs.Rows.{characterAt, found-at, length-found, markAt, stored-character}
 use Rattle.receiver.proofs.Sized.{Sized}

@@ -10,19 +10,22 @@ use lib.Dec.{T, eqb, eqb→eq, leb}
 use lib.ListN.{length}
 use Rattle.laws.proofs.Bools.{both-left, both-right, passed}
 use Rattle.laws.proofs.Keeps.{both}
+use Rattle.packet.specs.Texts.{textOf}
 use Rattle.page.specs.Lawful.{cellsFit, cellsLawful, digitsLawful, headerFits, magazineFits, pageFits}
 use Rattle.page.specs.Records.{recordLength}
 use Rattle.page.specs.Writing as writing
 use Rattle.page.specs.declared.WriteAnswer.{WriteAnswer}
 use Rattle.page.specs.declared.WriteAnswer.the-variants.{Written, ShortRecord, TooLarge, BadDigit, UnlawfulCells}
 use Rattle.receiver.specs.Entries.{lawful}
-use Rattle.receiver.specs.Lines.{Outcome, closingWord, doubted, headerTaken, held, justClosed, lentAfter, nothing, taken, textTaken}
+use Rattle.receiver.specs.Effects.{Outcome, closingWord, doubted, effected, headerTaken, held, justClosed, lentAfter, taken, textTaken, unclosed}
 use Rattle.receiver.specs.Selections.{inRange, matches, timeMatches, whenInRange}
 use Rattle.receiver.specs.declared.Closing.the-variants as closing
 use Rattle.receiver.specs.declared.Receiver.{Receiver}
+use Rattle.receiver.specs.declared.kinds.Effect.{Effect}
+use Rattle.receiver.specs.declared.kinds.Effect.the-variants.{Nothing, Store, Open, Close, Doubt}
 use Rattle.receiver.proofs.Closings.{lent-open, none-open}
-use Rattle.receiver.proofs.Effects.{by-effects}
 use Rattle.receiver.proofs.Lawful.{doubted-lawful, open-matches, parts}
+use Rattle.receiver.proofs.Outcomes.{by-doubt, by-effects}
 
 -- the writer's three tests, each passed
 all-passed : (a b c : Bool) → T a → T b → T c → cond a (cond b (cond c Written UnlawfulCells) BadDigit) TooLarge ≡ Written
@@ -33,7 +36,8 @@ all-passed false b c ta tb tc = absurd ta
 
 module _ (receiver : Receiver) (is : T (lawful receiver)) (open-now : T (receiver .«open»)) where
   -- the magazine and the digits are the selection's
-  in-range : T (leb 1 (receiver .selection .magazine) && leb (receiver .selection .magazine) 8) × T (leb (receiver .selection .tens) 9) × T (leb (receiver .selection .units) 9)
+  in-range : T (leb 1 (receiver .selection .magazine) && leb (receiver .selection .magazine) 8)
+      × T (leb (receiver .selection .tens) 9) × T (leb (receiver .selection .units) 9)
   unfolding inRange
   in-range =
       let magazine = leb 1 (receiver .selection .magazine) && leb (receiver .selection .magazine) 8 in
@@ -93,15 +97,18 @@ module _ (receiver : Receiver) (is : T (lawful receiver)) (packet lent : List �
       by true o = closing-writes-the-page receiver is (subst T (sym o) tt) lent long
       by false o = absurd (closes (none-open receiver o))
 
+  wrote-by : (e : Effect) (bytes : List ℕ) → (effected receiver e bytes lent .closing ≡ closing.None → ⊥) → Wrote (effected receiver e bytes lent)
+  unfolding effected unclosed textTaken headerTaken justClosed doubted
+  wrote-by Nothing bytes = λ n. absurd (n refl)
+  wrote-by (Store row) bytes = λ n. absurd (n refl)
+  wrote-by (Open header) bytes = λ n. inl (closed-wrote n)
+  wrote-by (Close kind) bytes = λ n. inl (closed-wrote n)
+  wrote-by (Doubt could) bytes =
+      by-doubt receiver lent (λ (o : Outcome). (o .closing ≡ closing.None → ⊥) → Wrote o) could
+      (λ o t n. inr (refl, closing-writes-the-page (doubted receiver) (doubted-lawful receiver is (rw o tt)) (rw o tt) lent long))
+      (λ o t n. absurd (n refl))
+      (λ o n. absurd (n refl))
+
   pub closing-line-writes : (taken receiver packet lent .closing ≡ closing.None → ⊥) → Wrote (taken receiver packet lent)
-  unfolding nothing textTaken headerTaken justClosed doubted
   closing-line-writes =
-      by-effects receiver packet lent (λ (o : Outcome). (o .closing ≡ closing.None → ⊥) → Wrote o)
-      (λ p n. absurd (n refl))
-      (λ row t n. absurd (n refl))
-      (λ a found r m n. inl (closed-wrote n))
-      (λ a found r m n. inl (closed-wrote n))
-      (λ a r n. inl (closed-wrote n))
-      (λ a r n. absurd (n refl))
-      (λ u o n. inr (refl, closing-writes-the-page (doubted receiver) (doubted-lawful receiver is o) o lent long))
-      (λ could u o n. absurd (n refl))
+      by-effects receiver packet lent (λ (o : Outcome). (o .closing ≡ closing.None → ⊥) → Wrote o) (λ e. wrote-by e (textOf packet .bytes))

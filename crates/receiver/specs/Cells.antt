@@ -4,18 +4,12 @@ use mathlib.Core.List.{List, [], _∷_, map}
 use mathlib.Core.Option.{Option, none, some}
 use Prim.Native.Nat.{ℕ, zero, suc, _+_, _*_}
 use lib.Dec.{eqb}
-use lib.ListN.{drop, replicate}
+use lib.ListN.{drop, getD, replicate}
+use Rattle.grid.specs.Grid.{columns, cellCount}
 use Rattle.coding.specs.Characters.{character}
-use Rattle.packet.specs.Texts.{columns, headerColumn}
-use Rattle.page.specs.Lawful.{never, space}
-use Rattle.page.specs.Records.{cellCount}
+use Rattle.packet.specs.Texts.{headerColumn}
+use Rattle.page.specs.Lawful.{fresh, isFresh, never, older, space}
 use Rattle.page.specs.declared.Cells.{Cells}
-
-abbrev pub older : ℕ
-older = 1
-
-abbrev pub fresh : ℕ
-fresh = 2
 
 -- spaces (20) marked never
 unfoldable pub blank : Cells
@@ -23,7 +17,8 @@ blank = record { characters = replicate cellCount space; marks = replicate cellC
 
 -- fresh becomes older
 unfoldable pub age : ℕ → ℕ
-age mark = cond (eqb mark fresh) older mark
+unfolding isFresh
+age mark = cond (isFresh mark) older mark
 
 unfoldable pub aged : Cells → Cells
 unfolding age
@@ -45,30 +40,30 @@ unfoldable pub rowPlace : ℕ → ℕ
 unfolding firstColumn
 rowPlace row = row * columns + firstColumn row
 
--- each odd-parity byte goes to its cell; other bytes leave their cells
-unfoldable pub keptCharacter : Option ℕ → ℕ → ℕ
-keptCharacter none old = old
-keptCharacter (some new) old = new
+-- each odd-parity byte goes to its cell; other bytes leave their cells. The second number is the cell's mark
+unfoldable pub keptCharacter : Option ℕ → ℕ → ℕ → ℕ
+keptCharacter none character mark = character
+keptCharacter (some new) character mark = new
 
--- and is marked fresh
-unfoldable pub keptMark : Option ℕ → ℕ → ℕ
-keptMark none old = old
-keptMark (some new) old = fresh
+-- and is marked fresh. The second number is the cell's character
+unfoldable pub keptMark : Option ℕ → ℕ → ℕ → ℕ
+keptMark none mark character = mark
+keptMark (some new) mark character = fresh
 
--- what was found laid over the cells from a place on
-unfoldable pub laid : (Option ℕ → ℕ → ℕ) → ℕ → List (Option ℕ) → List ℕ → List ℕ
-laid keep zero [] cells = cells
-laid keep zero (found ∷ others) [] = []
-laid keep zero (found ∷ others) (cell ∷ cells) = keep found cell ∷ laid keep zero others cells
-laid keep (suc place) found [] = []
-laid keep (suc place) found (cell ∷ cells) = cell ∷ laid keep place found cells
+-- what was found laid over one half of the cells from a place on, their characters or their marks; the other half stands beside it
+unfoldable pub laid : (Option ℕ → ℕ → ℕ → ℕ) → ℕ → List (Option ℕ) → List ℕ → List ℕ → List ℕ
+laid keep zero [] half others = half
+laid keep zero (found ∷ more) [] others = []
+laid keep zero (found ∷ more) (cell ∷ half) others = keep found cell (getD others 0 0) ∷ laid keep zero more half (drop 1 others)
+laid keep (suc place) found [] others = []
+laid keep (suc place) found (cell ∷ half) others = cell ∷ laid keep place found half (drop 1 others)
 
 unfoldable pub stored : ℕ → List ℕ → Cells → Cells
 unfolding laid keptCharacter keptMark rowPlace rowFound
 stored row bytes cells =
     record {
-      characters = laid keptCharacter (rowPlace row) (rowFound row bytes) (cells .characters);
-      marks = laid keptMark (rowPlace row) (rowFound row bytes) (cells .marks);
+      characters = laid keptCharacter (rowPlace row) (rowFound row bytes) (cells .characters) (cells .marks);
+      marks = laid keptMark (rowPlace row) (rowFound row bytes) (cells .marks) (cells .characters);
     }
 
 -- the count of bytes written

@@ -5,7 +5,7 @@ use mathlib.Core.List.{List, [], _∷_}
 use mathlib.Core.Path.{_≡_}
 use Prim.Native.Nat.{ℕ}
 use lib.Dec.{eqb, ltb}
-use lib.ListN.{length, replicate}
+use lib.ListN.{length}
 use Rattle.laws.specs.Paper.{Paper, accepted, refusedBy}
 use Rattle.laws.specs.Every.{every}
 use Rattle.packet.specs.Headers.{headerValues, zeroHeader}
@@ -14,9 +14,9 @@ use Rattle.packet.specs.declared.Framed.{Framed}
 use Rattle.packet.specs.declared.Framed.the-variants as framed
 use Rattle.packet.specs.declared.Header.{Header}
 use Rattle.page.specs.Lawful.{headerFits, cellsFit, cellsLawful}
-use Rattle.page.specs.Records.{cellCount, recordLength}
+use Rattle.page.specs.Records.{recordLength, zeroCells}
 use Rattle.receiver.specs.Cells.{blank}
-use Rattle.receiver.specs.Lines.{Outcome, taken}
+use Rattle.receiver.specs.Effects.{Outcome, taken}
 use Rattle.receiver.specs.Selections.{inRange, matches}
 use Rattle.receiver.specs.declared.Answer.{Answer}
 use Rattle.receiver.specs.declared.Answer.the-variants as answer
@@ -35,14 +35,19 @@ closingNumber closing.None = 0
 closingNumber closing.Clean = 1
 closingNumber closing.Doubt = 2
 
+-- the kind, the count of bytes written and the closing word
+unfoldable pub lineValues : ℕ → ℕ → Closing → List ℕ
+unfolding closingNumber
+lineValues kind count word = kind ∷ count ∷ closingNumber word ∷ []
+
 -- a refused line answers kind 0, count 0 and closing none
 unfoldable pub refusedLine : ℕ → Paper
-unfolding refusedBy
-refusedLine number = refusedBy number (0 ∷ 0 ∷ 0 ∷ [])
+unfolding refusedBy lineValues
+refusedLine number = refusedBy number (lineValues 0 0 closing.None)
 
 unfoldable pub answerPaper : Answer → Paper
-unfolding accepted closingNumber refusedLine
-answerPaper (answer.Taken kind count word) = accepted (kind ∷ count ∷ closingNumber word ∷ [])
+unfolding accepted lineValues refusedLine
+answerPaper (answer.Taken kind count word) = accepted (lineValues kind count word)
 answerPaper answer.Unlawful = refusedLine 18
 answerPaper answer.ShortRecord = refusedLine 12
 answerPaper answer.WrongLength = refusedLine 10
@@ -56,10 +61,13 @@ unfolding every headerValues
 isZero header = every (eqb 0) (headerValues header)
 
 -- an open page's header matches the selection; with none open there is no doubt and the header is 0
-unfoldable pub stateLawful : Receiver → Bool
+unfoldable pub stateOf : Selection → Bool → Bool → Header → Bool
 unfolding matches isZero
-stateLawful receiver =
-    cond (receiver .«open») (matches (receiver .selection) (receiver .header)) (not (receiver .doubt) && isZero (receiver .header))
+stateOf selection isOpen doubt header = cond isOpen (matches selection header) (not doubt && isZero header)
+
+unfoldable pub stateLawful : Receiver → Bool
+unfolding stateOf
+stateLawful receiver = stateOf (receiver .selection) (receiver .«open») (receiver .doubt) (receiver .header)
 
 -- whose selection does not fail 13, whose state is as above, and whose parts do not fail 24 or 23
 unfoldable pub lawful : Receiver → Bool
@@ -81,10 +89,10 @@ unfolding refusedLine
 refusal number receiver lent = record { answer = refusedLine number; receiver = receiver; lent = lent }
 
 unfoldable pub entered : Outcome → Entered
-unfolding accepted closingNumber
+unfolding accepted lineValues
 entered outcome =
     record {
-      answer = accepted (outcome .kind ∷ outcome .count ∷ closingNumber (outcome .closing) ∷ []);
+      answer = accepted (lineValues (outcome .kind) (outcome .count) (outcome .closing));
       receiver = outcome .receiver;
       lent = outcome .lent;
     }
@@ -135,15 +143,9 @@ zeroSelection = record { magazine = 0; tens = 0; units = 0; when = Any }
 
 -- all zeros
 unfoldable pub zeroReceiver : Receiver
-unfolding zeroSelection zeroHeader
+unfolding zeroSelection zeroHeader zeroCells
 zeroReceiver =
-    record {
-      selection = zeroSelection;
-      «open» = false;
-      doubt = false;
-      header = zeroHeader;
-      cells = record { characters = replicate cellCount 0; marks = replicate cellCount 0 };
-    }
+    record { selection = zeroSelection; «open» = false; doubt = false; header = zeroHeader; cells = zeroCells }
 
 -- 13: selection out of range
 unfoldable pub made : Selection → Receiver

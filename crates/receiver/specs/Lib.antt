@@ -1,6 +1,7 @@
 pub mod Cells
+pub mod Effects
 pub mod Entries
-pub mod Lines
+pub mod Kinds
 pub mod Private
-pub mod Selections
 pub mod Recordings
+pub mod Selections

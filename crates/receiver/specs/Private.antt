@@ -1,63 +1,95 @@
 -- For the contracts of private functions: no promise rests on these words.
-use mathlib.Core.Bool.{Bool, cond, not, _&&_}
-use mathlib.Core.List.{List, map}
-use mathlib.Core.Logic.{_⊎_}
+use mathlib.Core.Bool.{Bool, true, false, cond, _&&_}
+use mathlib.Core.List.{List}
 use mathlib.Core.Option.{Option, none, some}
 use mathlib.Core.Path.{_≡_}
-use Prim.Native.Nat.{ℕ, _≤_}
-use lib.ListN.{drop, length}
-use Rattle.coding.specs.Characters.{character}
-use Rattle.coding.specs.declared.Character.{Character}
-use Rattle.coding.specs.declared.Character.the-variants.{Good, Even}
-use Rattle.packet.specs.Addresses.{lastRow, magazineOf}
-use Rattle.packet.specs.Lines.{packetLength}
-use Rattle.packet.specs.declared.Header.{Header}
-use Rattle.page.specs.Lawful.{cellsFit, cellsLawful}
+use Prim.Native.Nat.{ℕ, _+_, _*_, _≤_, _<_}
+use lib.Dec.{eqb, leb, ltb}
+use lib.ListN.{getD, length}
+use Rattle.grid.specs.Grid.{cellCount, lastRow}
+use Rattle.packet.specs.Addresses.{addressOf}
+use Rattle.packet.specs.Lines.{framed, packetLength, packetOf}
+use Rattle.packet.specs.declared.Framed.{Framed}
+use Rattle.packet.specs.declared.Framed.the-variants as framed
+use Rattle.page.specs.Lawful.{cellsFit, cellsLawful, highestMark}
+use Rattle.page.specs.Records.{recordLength}
 use Rattle.page.specs.declared.Cells.{Cells}
-use Rattle.receiver.specs.Entries.{Meets, entered, isZero}
-use Rattle.receiver.specs.Lines.{Outcome, Seen, passed, text}
+use Rattle.receiver.specs.Effects.{Outcome}
+use Rattle.receiver.specs.Entries.{lawful}
+use Rattle.receiver.specs.Kinds.{firstHarmless, seen, seenOurs}
+use Rattle.receiver.specs.Recordings.{Playing, playedPaper}
+use Rattle.receiver.specs.declared.Answer.{Answer}
+use Rattle.receiver.specs.declared.Answer.the-variants as answer
 use Rattle.receiver.specs.declared.Closing.{Closing}
 use Rattle.receiver.specs.declared.Closing.the-variants as closing
-use Rattle.receiver.specs.Selections.{matches}
 use Rattle.receiver.specs.declared.Receiver.{Receiver}
-use Rattle.receiver.specs.declared.Selection.{Selection}
-use Rattle.receiver.specs.declared.Sort.{Sort}
-use Rattle.receiver.specs.declared.Sort.the-variants as sort
-use Rattle.receiver.specs.declared.Standing.{Standing}
-use Rattle.receiver.specs.declared.Stepped.{Stepped}
-
-unfoldable pub heard : Character → Option ℕ
-heard (Good code) = some code
-heard Even = none
+use Rattle.receiver.specs.declared.asking.Asking.{Asking}
+use Rattle.receiver.specs.declared.asking.Asking.the-variants as asked
+use Rattle.receiver.specs.declared.effects.Done.{Done}
+use Rattle.receiver.specs.declared.effects.Standing.{Standing}
+use Rattle.receiver.specs.declared.kinds.Effect.{Effect}
+use Rattle.receiver.specs.declared.kinds.Effect.the-variants.{Nothing, Store, Open, Close, Doubt}
+use Rattle.receiver.specs.declared.kinds.Seen.{Seen}
+use Rattle.receiver.specs.declared.kinds.Seen.the-variants.{Another, Unsure}
+use Rattle.receiver.specs.declared.looking.Looked.{Looked}
+use Rattle.receiver.specs.declared.looking.Looked.the-variants as looked
+use Rattle.receiver.specs.declared.recording.Ended.{Ended}
 
 unfoldable pub one : Option ℕ → ℕ
 one none = 0
 one (some code) = 1
 
--- the characters of some bytes from a column on
-unfoldable pub foundFrom : ℕ → List ℕ → List (Option ℕ)
-unfolding character
-foundFrom first bytes = map character (drop first bytes)
-
--- the closing word of an open page, or none
-unfoldable pub wordOf : Bool → Bool → Closing
-wordOf isOpen doubt = cond isOpen (cond doubt closing.Doubt closing.Clean) closing.None
-
--- what the code of a step gives
-abbrev pub Took : Outcome → Stepped → List ℕ → Type 0
-Took outcome stepped lent = Meets (entered outcome) stepped lent
-
--- what 18 asks of the header, by the parts of a receiver
-unfoldable pub stateOf : Selection → Bool → Bool → Header → Bool
-unfolding matches isZero
-stateOf selection isOpen doubt header = cond isOpen (matches selection header) (not doubt && isZero header)
-
--- what it asks of the cells
+-- what 18 asks of the cells
 unfoldable pub bothLawful : Cells → Bool
 unfolding cellsFit cellsLawful
 bothLawful cells = cellsFit cells && cellsLawful cells
 
--- a receiver without its cells, and joined with some again
+-- 18, then 12, of a receiver and the length of what is lent
+unfoldable pub askedOf : Receiver → ℕ → Asking
+unfolding lawful
+askedOf receiver room = cond (lawful receiver) (cond (ltb room recordLength) (asked.Refused answer.ShortRecord) asked.Fine) (asked.Refused answer.Unlawful)
+
+-- marks of lawful cells
+abbrev pub LowMarks : List ℕ → Type 0
+LowMarks marks = (k : ℕ) → k < length marks → getD marks k 0 ≤ highestMark
+
+-- ---- what a line shows
+
+-- the first message good and ours, with row weight 1, by the second
+unfoldable pub seenWith : ℕ → Option ℕ → Seen
+unfolding seenOurs
+seenWith weight1 none = Unsure (eqb weight1 0)
+seenWith weight1 (some second) = seenOurs (weight1 + 2 * second)
+
+-- the first message refused
+unfoldable pub seenWithout : Option ℕ → Seen
+seenWithout none = Unsure true
+seenWithout (some second) = cond (leb firstHarmless second) Another (Unsure (eqb second 0))
+
+-- 10, or what the address shows
+unfoldable pub lookedPacket : ℕ → List ℕ → Looked
+unfolding seen addressOf
+lookedPacket ours packet =
+    cond (eqb (length packet) packetLength) (looked.Shows (seen ours (addressOf packet))) (looked.Refused answer.WrongLength)
+
+unfoldable pub lookedBy : Framed → ℕ → List ℕ → Looked
+unfolding seen addressOf packetOf
+lookedBy framed.Packet ours line = looked.Shows (seen ours (addressOf (packetOf line)))
+lookedBy framed.WrongLength ours line = looked.Refused answer.WrongLength
+lookedBy framed.WrongFraming ours line = looked.Refused answer.WrongFraming
+
+unfoldable pub lookedLine : ℕ → List ℕ → Looked
+unfolding lookedBy framed
+lookedLine ours line = lookedBy (framed line) ours line
+
+-- a page was closed
+unfoldable pub isClosing : Closing → Bool
+isClosing closing.None = false
+isClosing closing.Clean = true
+isClosing closing.Doubt = true
+
+-- ---- a receiver whose cells lie elsewhere
+
 abbrev pub standingOf : Receiver → Standing
 standingOf receiver =
     record {
@@ -67,8 +99,8 @@ standingOf receiver =
       header = receiver .header;
     }
 
-abbrev pub joinedOf : Standing → List ℕ → List ℕ → Receiver
-joinedOf standing characters marks =
+abbrev pub joined : Standing → List ℕ → List ℕ → Receiver
+joined standing characters marks =
     record {
       selection = standing .selection;
       «open» = standing .«is_open»;
@@ -77,18 +109,39 @@ joinedOf standing characters marks =
       cells = record { characters = characters; marks = marks };
     }
 
--- a first message that is good and another magazine's
-unfoldable pub Elsewhere : ℕ → Option ℕ → Type 0
-unfolding magazineOf
-Elsewhere ours none = ⊥
-Elsewhere ours (some first) = magazineOf first ≡ ours → ⊥
+-- what a line finds that is taken: a lawful receiver with all its cells, and a lent record that is long enough
+pub record Ready (standing : Standing) (characters marks lent : List ℕ) : Type 0 where
+  pub right : lawful (joined standing characters marks) ≡ true
+  pub all-characters : length characters ≡ cellCount
+  pub all-marks : length marks ≡ cellCount
+  pub room : recordLength ≤ length lent
 
--- what a sort says of what an address shows: `Other` says nothing
-unfoldable pub Shows : Sort → Seen → Type 0
-Shows sort.Passed seen = seen ≡ passed
-Shows (sort.Row row) seen = (seen ≡ text row) × (1 ≤ row) × (row ≤ lastRow)
-Shows sort.Other seen = Unit {0}
+abbrev pub doneOf : Standing → ℕ → ℕ → Closing → Done
+doneOf standing kind count word = record { standing = standing; kind = kind; count = count; closing = word }
 
--- what the sort of a packet says, which may be an empty part
-abbrev pub Sorted : Sort → List ℕ → Seen → Type 0
-Sorted found packet seen = (found ≡ sort.Other) ⊎ ((length packet ≡ packetLength) × Shows found seen)
+-- a row that is to be stored has its cells
+abbrev pub Storable : Effect → Type 0
+Storable Nothing = Unit {0}
+Storable (Store row) = row ≤ lastRow
+Storable (Open header) = Unit {0}
+Storable (Close kind) = Unit {0}
+Storable (Doubt couldBeHeader) = Unit {0}
+
+-- what the code of an effect gives, where the cells and the lent record are then these
+pub record Does (outcome : Outcome) (done : Done) (characters marks lent : List ℕ) : Type 0 where
+  pub kept : joined (done .standing) characters marks ≡ outcome .receiver
+  pub kind : done .kind ≡ outcome .kind
+  pub count : done .count ≡ outcome .count
+  pub word : done .closing ≡ outcome .closing
+  pub left : lent ≡ outcome .lent
+
+-- a line's answer
+abbrev pub answerOf : Done → Answer
+answerOf done = answer.Taken (done .kind) (done .count) (done .closing)
+
+-- what the code of playing gives, where the cells and the lent record are then these
+pub record EndsAs (promised : Playing) (ended : Ended) (characters marks lent : List ℕ) : Type 0 where
+  pub answered : playedPaper (ended .answer) ≡ promised .stopped
+  pub counted : ended .used ≡ promised .used
+  pub kept : joined (ended .standing) characters marks ≡ promised .receiver
+  pub left : lent ≡ promised .lent

@@ -1,44 +1,37 @@
 // Sorts w and d: a page written as a record, and a record read.
 use crate::forms;
-use crate::lending;
-use crate::text;
 use page::ReadAnswer;
 use page::WriteAnswer;
 
-fn write_number(answer: WriteAnswer) -> u64 {
+fn put_written(answer: WriteAnswer) {
     match answer {
-        WriteAnswer::Written => 0,
-        WriteAnswer::ShortRecord => 12,
-        WriteAnswer::TooLarge => 24,
-        WriteAnswer::BadDigit => 22,
-        WriteAnswer::UnlawfulCells => 23,
+        WriteAnswer::Written => cases::put_byte(0),
+        WriteAnswer::ShortRecord => cases::put_byte(12),
+        WriteAnswer::TooLarge => cases::put_byte(24),
+        WriteAnswer::BadDigit => cases::put_byte(22),
+        WriteAnswer::UnlawfulCells => cases::put_byte(23),
     }
 }
 
-fn read_number(answer: ReadAnswer) -> u64 {
+fn put_read(answer: ReadAnswer) {
     match answer {
-        ReadAnswer::Read => 0,
-        ReadAnswer::WrongLength => 20,
-        ReadAnswer::NotZero => 21,
-        ReadAnswer::BadDigit => 22,
-        ReadAnswer::UnlawfulCells => 23,
+        ReadAnswer::Read => cases::put_byte(0),
+        ReadAnswer::WrongLength => cases::put_byte(20),
+        ReadAnswer::NotZero => cases::put_byte(21),
+        ReadAnswer::BadDigit => cases::put_byte(22),
+        ReadAnswer::UnlawfulCells => cases::put_byte(23),
     }
 }
 
-pub(crate) fn answer_written(input: &[u8], room: &mut [u8], spare: &mut [u8]) {
-    let page = forms::page_of(input);
-    let length = forms::first_double(forms::rest(input, forms::PAGE_LENGTH));
-    let record = lending::lend(room, length);
-    let kept = lending::lend(spare, length);
-    let answer = page::write_record(page, record);
-    text::item(write_number(answer));
-    lending::put_after(kept, record);
+pub(crate) fn answer_written(input: &[u8], record: &mut [u8]) {
+    put_written(page::write_record(forms::page_of(input), record));
+    cases::put(record);
 }
 
-pub(crate) fn answer_read(record: &[u8]) {
-    let read = page::read_record(record);
+pub(crate) fn answer_read(input: &[u8]) {
+    let read = page::read_record(input);
     let answer = read.answer;
+    put_read(answer);
     let page = read.page;
-    text::item(read_number(answer));
     forms::put_page(page);
 }

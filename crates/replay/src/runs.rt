@@ -1,162 +1,122 @@
-// Sorts e and r: many lines for a new receiver, one after the other, and a recording.
+// Sorts s and r: a new receiver, and a run: a receiver that lines, packets and recordings are taken by, one after the other, through the entries of the library.
 use crate::forms;
-use crate::lending;
-use crate::lines;
-use crate::text;
+use receiver::Answer;
+use receiver::Closing;
 use receiver::Played;
 use receiver::Receiver;
+use receiver::Selected;
+use receiver::Stepped;
 
-// Where a sequence has its count of lines, and its first line.
-const COUNT: usize = 10;
+// What stands before the bytes of a step: its entry, and its length in two bytes.
+const STEP: usize = 3;
 
-const FIRST: usize = 11;
+// The kind that is said where a recording came to its end.
+const AT_END: u8 = 0xFF;
 
-// One call of the recording entry: the receiver after it, how many lines it used, and whether more are to be played.
-struct Turn {
-    receiver: Receiver,
-    used: usize,
-    more: bool,
+fn put_selected(answer: Selected) {
+    match answer {
+        Selected::Ready => cases::put_byte(0),
+        Selected::OutOfRange => cases::put_byte(13),
+    }
 }
 
-fn new_receiver(input: &[u8]) -> Receiver {
+pub(crate) fn answer_selection(input: &[u8]) {
     let new = Receiver::new(forms::selection_of(input));
-    new.receiver
+    let answer = new.answer;
+    put_selected(answer);
+    let receiver = new.receiver;
+    forms::put_receiver(receiver);
 }
 
-// The place after the line whose length stands at a place, or 0 where the line runs past the input.
-fn after_line(input: &[u8], place: usize) -> usize {
-    if place < input.len() {
-        let size = forms::byte_at(input, place) as usize + 1;
-        if size <= input.len() - place {
-            return place + size;
-        }
+fn closing_number(closing: Closing) -> u8 {
+    match closing {
+        Closing::None => 0,
+        Closing::Clean => 1,
+        Closing::Doubt => 2,
     }
-    0
 }
 
-// Whether all lines of a sequence are there.
-pub(crate) fn is_whole(input: &[u8]) -> bool {
-    if input.len() < FIRST {
-        return false;
+fn answer_bytes(answer: Answer) -> [u8; 4] {
+    match answer {
+        Answer::Taken {
+            kind,
+            count,
+            closing,
+        } => [0, kind, count, closing_number(closing)],
+        Answer::Unlawful => [18, 0, 0, 0],
+        Answer::ShortRecord => [12, 0, 0, 0],
+        Answer::WrongLength => [10, 0, 0, 0],
+        Answer::WrongFraming => [11, 0, 0, 0],
     }
-    let mut place = FIRST;
-    let mut left = forms::byte_at(input, COUNT);
-    while left > 0 {
-        place = after_line(input, place);
-        if place == 0 {
-            return false;
-        }
-        left -= 1;
-    }
-    true
 }
 
-// One line of a sequence.
-fn take_one(receiver: Receiver, line: &[u8], record: &mut [u8], spare: &mut [u8]) -> Receiver {
-    lending::keep(record, spare);
-    let stepped = receiver::take_line(receiver, line, record);
+fn put_answer(answer: Answer) {
+    let bytes = answer_bytes(answer);
+    cases::put(&bytes);
+}
+
+fn last_answer(played: Played) -> Answer {
+    match played {
+        Played::Stopped(answer) => answer,
+        Played::End => Answer::Taken {
+            kind: AT_END,
+            count: 0,
+            closing: Closing::None,
+        },
+    }
+}
+
+fn put_used(lines: usize) {
+    let bytes = [(lines / 256 % 256) as u8, (lines % 256) as u8];
+    cases::put(&bytes);
+}
+
+// A recording: how many lines were used, and the answer that it stopped at.
+fn play(receiver: Receiver, bytes: &[u8], record: &mut [u8]) -> Stepped {
+    let recorded = receiver::take_recording(receiver, bytes, record);
+    put_used(recorded.used);
+    let played = recorded.answer;
+    let answer = last_answer(played);
+    let after = recorded.receiver;
+    Stepped {
+        receiver: after,
+        answer,
+    }
+}
+
+fn take(entry: u8, receiver: Receiver, bytes: &[u8], record: &mut [u8]) -> Stepped {
+    match entry {
+        b'm' => lent::take_line_through(receiver, bytes, record),
+        b'p' => receiver::take_packet(receiver, bytes, record),
+        b'r' => play(receiver, bytes, record),
+        _ => receiver::take_line(receiver, bytes, record),
+    }
+}
+
+// One step: its answer, and the record after it.
+fn take_step(receiver: Receiver, step: &[u8], size: usize, record: &mut [u8]) -> Receiver {
+    let bytes = cases::start(cases::rest(step, STEP), size);
+    let stepped = take(cases::byte_at(step, 0), receiver, bytes, record);
     let answer = stepped.answer;
-    lines::put_answer(answer);
-    text::space();
-    lending::put_after(spare, record);
-    text::space();
+    put_answer(answer);
+    cases::put(record);
     stepped.receiver
 }
 
-fn take_each(receiver: Receiver, input: &[u8], record: &mut [u8], spare: &mut [u8]) -> Receiver {
+fn take_each(receiver: Receiver, steps: &[u8], record: &mut [u8]) -> Receiver {
     let mut current = receiver;
-    let mut place = FIRST;
-    let mut left = forms::byte_at(input, COUNT);
-    while left > 0 {
-        let after = after_line(input, place);
-        let line = forms::rest(forms::part(input, place, after), 1);
-        let next = take_one(current, line, record, spare);
+    let mut place = 0;
+    while place < steps.len() {
+        let step = cases::rest(steps, place);
+        let size = cases::double(cases::rest(step, 1)) as usize;
+        let next = take_step(current, step, size, record);
         current = next;
-        place = after;
-        left -= 1;
+        place = place + STEP + size;
     }
     current
 }
 
-pub(crate) fn answer_sequence(input: &[u8], room: &mut [u8], spare: &mut [u8]) {
-    let length = forms::first_double(forms::rest(input, forms::SELECTION_LENGTH));
-    let record = lending::lend(room, length);
-    let kept = lending::lend(spare, length);
-    let last = take_each(new_receiver(input), input, record, kept);
-    forms::put_receiver(last);
-}
-
-// The place in a recording after so many lines from a place on; the last line may be cut short.
-fn after_lines(recording: &[u8], place: usize, count: usize) -> usize {
-    if place <= recording.len() {
-        if count <= (recording.len() - place) / packet::LINE_LENGTH {
-            return place + count * packet::LINE_LENGTH;
-        }
-    }
-    recording.len()
-}
-
-// What a call of the recording entry came to; whether it stopped before the end.
-fn put_played(end: Played, used: usize, receiver: Receiver, kept: &[u8], record: &[u8]) -> bool {
-    match end {
-        Played::Stopped(answer) => {
-            text::put(b"stop ");
-            text::item(used as u64);
-            lines::put_answer(answer);
-            text::space();
-            lending::put_after(kept, record);
-            text::space();
-            true
-        }
-        Played::End => {
-            text::put(b"end ");
-            text::item(used as u64);
-            forms::put_receiver(receiver);
-            false
-        }
-    }
-}
-
-fn play(receiver: Receiver, left: &[u8], record: &mut [u8], spare: &mut [u8]) -> Turn {
-    lending::keep(record, spare);
-    let played = receiver::take_recording(receiver, left, record);
-    let end = played.answer;
-    let used = played.used;
-    let next = played.receiver;
-    let more = put_played(end, used, next, spare, record);
-    Turn {
-        receiver: next,
-        used,
-        more,
-    }
-}
-
-// Calls the recording entry until it comes to the end. The count of turns is there so that the loop is seen to end: each turn uses a line.
-fn play_all(receiver: Receiver, recording: &[u8], record: &mut [u8], spare: &mut [u8]) {
-    let mut current = receiver;
-    let mut place = 0;
-    let mut turns = u64::MAX;
-    while turns > 0 {
-        let turn = play(current, forms::rest(recording, place), record, spare);
-        if !turn.more {
-            return;
-        }
-        let next = turn.receiver;
-        current = next;
-        place = after_lines(recording, place, turn.used);
-        turns -= 1;
-    }
-}
-
-pub(crate) fn answer_recording(input: &[u8], room: &mut [u8], spare: &mut [u8]) {
-    let after_selection = forms::rest(input, forms::SELECTION_LENGTH);
-    let length = forms::first_double(after_selection);
-    let record = lending::lend(room, length);
-    let kept = lending::lend(spare, length);
-    play_all(
-        new_receiver(input),
-        forms::rest(after_selection, forms::NUMBER_LENGTH),
-        record,
-        kept,
-    );
+pub(crate) fn answer_run(input: &[u8], record: &mut [u8]) {
+    let steps = cases::rest(input, forms::RECEIVER_LENGTH);
+    forms::put_receiver(take_each(forms::receiver_of(input), steps, record));
 }

@@ -28,7 +28,22 @@ digit-text-requires-7 c κs = search needs
 
 returns : tie.Need-returns
 unfolding headingText
-returns c = rw (c .before .before .before .before .before .before .digit-text .ensures, c .before .before .before .before .before .digit-text2 .ensures, c .before .before .before .before .digit-text3 .ensures, c .before .before .before .digit-text4 .ensures, c .before .before .digit-text5 .ensures, c .before .digit-text6 .ensures, c .digit-text7 .ensures)
+returns c =
+    let c6 = c .before in
+    let c5 = c6 .before in
+    let c4 = c5 .before in
+    let c3 = c4 .before in
+    let c2 = c3 .before in
+    let c1 = c2 .before in
+    rw (
+      c1 .digit-text .ensures,
+      c2 .digit-text2 .ensures,
+      c3 .digit-text3 .ensures,
+      c4 .digit-text4 .ensures,
+      c5 .digit-text5 .ensures,
+      c6 .digit-text6 .ensures,
+      c .digit-text7 .ensures,
+    )
 
 pub heading-spec : {M : Type 1} → statement M
 heading-spec =

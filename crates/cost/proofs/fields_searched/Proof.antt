@@ -1,10 +1,11 @@
-use Prim.Native.Nat.{_≤_, _-_}
+-- `cost::fields_searched` is safe and ends: the turns left fall.
+use Prim.Native.Nat.{_-_}
 use borrow.Author.Needs.{needs}
 use Rattle.cost.proofs.fields_searched.Statement.{statement}
 use Rattle.cost.proofs.fields_searched.Tie as tie
 
 abbrev Inv-loop : tie.InvT-loop
-Inv-loop field count sum₀ turn₀ sum turn = turn ≤ count
+Inv-loop field count sum₀ turn₀ sum turn = Unit {0}
 
 abbrev μ-loop : tie.MeasureT-loop
 μ-loop field count sum₀ turn₀ sum turn = count - turn

@@ -1,12 +1,14 @@
-use mathlib.Core.Path.{_≡_}
-use Prim.Native.Nat.{_≤_, _-_}
-use lib.ListN.{length}
+-- `cost::pages_written` is safe and ends: the turns left fall, and the record keeps its length.
+use Prim.Native.Nat.{_-_}
+use Rattle.page.specs.Records.{recordLength}
 use borrow.Author.Needs.{needs}
+use lib.ListN.{length}
+use mathlib.Core.Path.{_≡_}
 use Rattle.cost.proofs.pages_written.Statement.{statement}
 use Rattle.cost.proofs.pages_written.Tie as tie
 
 abbrev Inv-loop : tie.InvT-loop
-Inv-loop page count record₀ sum₀ turn₀ «record» sum turn = (turn ≤ count) × (length «record» ≡ length record₀) × (length «record» ≡ 1085)
+Inv-loop page count record₀ sum₀ turn₀ «record» sum turn = length «record» ≡ recordLength
 
 abbrev μ-loop : tie.MeasureT-loop
 μ-loop page count record₀ sum₀ turn₀ «record» sum turn = count - turn
@@ -14,11 +16,14 @@ abbrev μ-loop : tie.MeasureT-loop
 loop-holds : tie.Need-loop-holds Inv-loop μ-loop
 loop-holds c = search needs
 
+slice-aggregate-write-record : tie.Need-slice-aggregate-write-record Inv-loop μ-loop
+slice-aggregate-write-record c = search needs
+
 write-record-requires : tie.Need-write-record-requires Inv-loop μ-loop
 write-record-requires c κs = search needs
 
-slice-read-sum : tie.Need-slice-read-sum Inv-loop μ-loop
-slice-read-sum c = search needs
+array-read-sum : tie.Need-array-read-sum Inv-loop μ-loop
+array-read-sum c = search needs
 
 add-turn : tie.Need-add-turn Inv-loop μ-loop
 add-turn c = search needs
@@ -28,9 +33,6 @@ loop-less c = search needs
 
 loop-again : tie.Need-loop-again Inv-loop μ-loop
 loop-again c = search needs
-
-same-length : tie.Need-same-length Inv-loop μ-loop
-same-length c = search needs
 
 returns : tie.Need-returns Inv-loop μ-loop
 returns c = search needs
@@ -42,10 +44,10 @@ pages-written-spec =
     Inv-loop
     μ-loop
     loop-holds
+    slice-aggregate-write-record
     write-record-requires
-    slice-read-sum
+    array-read-sum
     add-turn
     loop-less
     loop-again
-    same-length
     returns)

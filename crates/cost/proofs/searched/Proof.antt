@@ -1,10 +1,10 @@
-use Prim.Native.Nat.{_≤_}
+-- `cost::searched` is safe and ends: the turns left fall.
 use borrow.Author.Needs.{needs}
 use Rattle.cost.proofs.searched.Statement.{statement}
 use Rattle.cost.proofs.searched.Tie as tie
 
 abbrev Inv-loop : tie.InvT-loop
-Inv-loop field sum₀ place₀ turns₀ sum place turns = turns ≤ 100
+Inv-loop field sum₀ place₀ turns₀ sum place turns = Unit {0}
 
 abbrev μ-loop : tie.MeasureT-loop
 μ-loop field sum₀ place₀ turns₀ sum place turns = turns

@@ -1,13 +1,14 @@
 -- `display::cells_of` meets its contract. The loop's invariant: the cells so far, with those of what is left from the state that was reached, are the
 -- row's, and the cells from here on are zeros.
-use mathlib.Core.Path.{_≡_, refl, sym, _∙_, ap}
+use mathlib.Core.Path.{_≡_, sym, _∙_, ap}
 use mathlib.Core.List.{_++_}
-use Prim.Native.Nat.{ℕ, _≤_, _-_, _+_}
+use Prim.Native.Nat.{_≤_, _-_, _+_}
 use native.Mathlib.Omega.{arith}
 use borrow.Author.Needs.{needs}
 use lib.ListN.{length, take, drop, length-set}
 use lib.Seq.{drop-set-lt}
-use Rattle.display.specs.Display.{start, along, columns, zeroCells}
+use Rattle.grid.specs.Grid.{columns}
+use Rattle.display.specs.Display.{start, along, zeroCells}
 use Rattle.display.proofs.Steps.{one-more, one-less, filled-to, zeros-length}
 use Rattle.display.proofs.cells_of.Statement.{statement}
 use Rattle.display.proofs.cells_of.Tie as tie

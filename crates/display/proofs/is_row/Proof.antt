@@ -1,13 +1,13 @@
 -- `display::is_row` meets its contract. The loop's invariant: the row's are all codes just where none so far was too high and those from here on are.
-use mathlib.Core.Path.{_≡_, refl, sym, _∙_}
-use mathlib.Core.Bool.{Bool, not, _&&_, and-true}
+use mathlib.Core.Path.{_≡_, refl, _∙_}
+use mathlib.Core.Bool.{not, _&&_, and-true}
 use mathlib.Core.List.{[]}
-use Prim.Native.Nat.{ℕ, _≤_, _-_}
-use native.Mathlib.Omega.{arith}
+use Prim.Native.Nat.{_≤_, _-_}
 use borrow.Author.Needs.{needs}
 use borrow.Author.Tests.{eq-eqb, ne-eqb}
 use lib.ListN.{length, drop, drop-of-length-le}
-use Rattle.display.specs.Display.{columns, allCodes, isRow}
+use Rattle.grid.specs.Grid.{columns}
+use Rattle.display.specs.Display.{allCodes, isRow}
 use Rattle.display.proofs.Steps.{codes-none, one-asked}
 use Rattle.display.proofs.is_row.Statement.{statement}
 use Rattle.display.proofs.is_row.Tie as tie

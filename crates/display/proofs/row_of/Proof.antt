@@ -1,5 +1,5 @@
 -- `display::row_of` meets its contract: the test is the definition's, and each answer has its number and its cells.
-use mathlib.Core.Path.{_≡_, sym, _∙_}
+use mathlib.Core.Path.{sym}
 use borrow.Author.Needs.{needs}
 use Rattle.display.specs.Display.{rowPaper}
 use Rattle.display.proofs.Steps.{count-fits}

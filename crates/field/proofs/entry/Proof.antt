@@ -3,12 +3,12 @@ use mathlib.Core.Path.{sym, _∙_}
 use borrow.Author.Needs.{needs}
 use borrow.Author.Tests.{eq-eqb, ne-eqb, lt-ltb, le-ltb, not-true, not-false}
 use Rattle.field.specs.Field.{start}
-use Rattle.field.specs.Private.{firstWay}
+use Rattle.field.specs.Private.{firstStart}
 use Rattle.field.proofs.entry.Statement.{statement}
 use Rattle.field.proofs.entry.Tie as tie
 
 returns : tie.Need-returns
-unfolding start firstWay
+unfolding start firstStart
 returns c = simp (eq-eqb _ _ (c .if1 .taken))
 
 shared-slice-read-is-known : tie.Need-shared-slice-read-is-known
@@ -18,7 +18,7 @@ is-known-requires : tie.Need-is-known-requires
 is-known-requires c κs = search needs
 
 returns-2 : tie.Need-returns-2
-unfolding start firstWay
+unfolding start firstStart
 returns-2 c =
     simp (
       ne-eqb _ _ (c .before .before .before .if1 .left),
@@ -26,7 +26,7 @@ returns-2 c =
     )
 
 returns-3 : tie.Need-returns-3
-unfolding start firstWay
+unfolding start firstStart
 returns-3 c =
     simp (
       ne-eqb _ _ (c .before .before .before .before .if1 .left),
@@ -35,7 +35,7 @@ returns-3 c =
     )
 
 returns-4 : tie.Need-returns-4
-unfolding start firstWay
+unfolding start firstStart
 returns-4 c =
     simp (
       ne-eqb _ _ (c .before .before .before .before .before .if1 .left),
@@ -45,7 +45,7 @@ returns-4 c =
     )
 
 returns-5 : tie.Need-returns-5
-unfolding start firstWay
+unfolding start firstStart
 returns-5 c =
     simp (
       ne-eqb _ _ (c .before .before .before .before .before .if1 .left),

@@ -7,9 +7,9 @@ use native.Mathlib.Omega.{arith}
 use borrow.Author.Needs.{needs}
 use denote.Ref.{now}
 use lib.Dec.{lit<}
-use Rattle.field.specs.Field.{idAt, teletextId, here, goOn, anyUnitPaper}
+use Rattle.field.specs.Field.{idAt, teletextId, here, anyUnitPaper}
 use Rattle.field.specs.Search.{foundPaper}
-use Rattle.field.specs.Private.{lookWay, lineStep}
+use Rattle.field.specs.Private.{goOn, lookTold, stepTold}
 use Rattle.field.proofs.Units.{is-unit, teletext-length}
 use Rattle.field.proofs.Steps.{leaves, Tells, tells, other-id, line-decides}
 use Rattle.field.proofs.look_at.Statement.{statement}
@@ -49,7 +49,7 @@ look-at-line-requires : tie.Need-look-at-line-requires
 look-at-line-requires c κs =
     let is = is-unit _ _ (told (c .before) .stands) in
     let long = teletext-length _ _ (c .before .before .before .before .before .before .before .pre .1) is (id-is (c .before) (c .if1 .taken)) in
-    omega (arith, is .whole)
+    (omega (arith, is .whole), told (c .before) .after-is)
 
 enum-told : tie.Need-enum-told
 enum-told c = search needs
@@ -69,31 +69,32 @@ enum-known-at-2 c = search needs
 returns : tie.Need-returns
 returns c =
     let d = c .before .before in
-    c .look-at-line .ensures
-    ∙ (ap (lineStep (field-of d) (place-of d)) (told d .after-is) ∙ line-decides _ _ (told d .stands) (id-is d (c .before .if1 .taken)))
+    c .look-at-line .ensures ∙ ap (stepTold (field-of d)) (line-decides _ _ (told d .stands) (id-is d (c .before .if1 .taken)))
 
 returns-2 : tie.Need-returns-2
-unfolding lookWay
-returns-2 c = ap goOn (told (c .before) .after-is) ∙ other-id _ _ (told (c .before) .stands) (id-is (c .before) (c .if1 .left))
+unfolding lookTold stepTold
+returns-2 c =
+    let d = c .before in
+    ap goOn (told d .after-is) ∙ ap (stepTold (field-of d)) (other-id _ _ (told d .stands) (id-is d (c .if1 .left)))
 
 returns-3 : tie.Need-returns-3
-unfolding lookWay foundPaper anyUnitPaper
+unfolding lookTold foundPaper anyUnitPaper
 returns-3 c = leaves _ _ _ (sym (ap anyUnitPaper (c .enum-told .given .1)) ∙ c .before .before .unit-here .ensures) (lit< tt)
 
 returns-4 : tie.Need-returns-4
-unfolding lookWay foundPaper anyUnitPaper
+unfolding lookTold foundPaper anyUnitPaper
 returns-4 c = leaves _ _ _ (sym (ap anyUnitPaper (c .enum-told2 .given .1)) ∙ c .before .before .unit-here .ensures) (lit< tt)
 
 returns-5 : tie.Need-returns-5
-unfolding lookWay foundPaper anyUnitPaper
+unfolding lookTold foundPaper anyUnitPaper
 returns-5 c = leaves _ _ _ (sym (ap anyUnitPaper (c .enum-told3 .given .1)) ∙ c .before .before .unit-here .ensures) (lit< tt)
 
 returns-6 : tie.Need-returns-6
-unfolding lookWay foundPaper anyUnitPaper
+unfolding lookTold foundPaper anyUnitPaper
 returns-6 c = leaves _ _ _ (sym (ap anyUnitPaper (c .before .at .given .1)) ∙ c .before .before .before .unit-here .ensures) (lit< tt)
 
 returns-7 : tie.Need-returns-7
-unfolding lookWay foundPaper anyUnitPaper
+unfolding lookTold foundPaper anyUnitPaper
 returns-7 c = leaves _ _ _ (sym (ap anyUnitPaper (c .before .at2 .given .1)) ∙ c .before .before .before .unit-here .ensures) (lit< tt)
 
 pub look-at-spec : {M : Type 1} → statement M

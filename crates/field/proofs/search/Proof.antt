@@ -6,16 +6,15 @@ use native.Mathlib.Omega.{arith}
 use borrow.Author.Needs.{needs}
 use denote.Ref.{now}
 use lib.ListN.{length}
-use Rattle.field.specs.Field.{goOn}
-use Rattle.field.specs.Search.{searched, step, walkFrom, walkOn, foundPaper, left}
-use Rattle.field.specs.Private.{firstWay, lookWay}
+use Rattle.field.specs.Search.{goesOn, step, endedPaper, searchedFrom, searched, foundPaper}
+use Rattle.field.specs.Private.{firstStart, lookTold}
 use Rattle.field.proofs.Units.{Begins, begins}
-use Rattle.field.proofs.Walk.{further, search-from, ends-here, ends-after, begins-after}
+use Rattle.field.proofs.Walk.{further, answerFrom, ends-after, begins-after, told-goes, told-ends, search-from}
 use Rattle.field.proofs.search.Statement.{statement}
 use Rattle.field.proofs.search.Tie as tie
 
 abbrev Inv-loop : tie.InvT-loop
-Inv-loop field place at₀ at = (walkFrom field at .ended ≡ searched field place) × Begins field at
+Inv-loop field place at₀ at = (answerFrom field at ≡ searched field place) × Begins field at
 
 abbrev μ-loop : tie.MeasureT-loop
 μ-loop field place at₀ at = length field - at
@@ -30,20 +29,20 @@ enum-told : tie.Need-enum-told Inv-loop μ-loop
 enum-told c = search needs
 
 returns : tie.Need-returns Inv-loop μ-loop
-unfolding walkOn left firstWay foundPaper
-returns c = search-from _ _ (sym (ap firstWay (c .enum-told .given .1)) ∙ c .before .before .entry .ensures)
+unfolding searchedFrom firstStart foundPaper
+returns c = search-from _ _ (sym (ap firstStart (c .enum-told .given .1)) ∙ c .before .before .entry .ensures)
 
 enum-told-2 : tie.Need-enum-told-2 Inv-loop μ-loop
 enum-told-2 c = search needs
 
 returns-2 : tie.Need-returns-2 Inv-loop μ-loop
-unfolding walkOn left firstWay foundPaper
-returns-2 c = search-from _ _ (sym (ap firstWay (c .enum-told2 .given .1)) ∙ c .before .before .entry .ensures)
+unfolding searchedFrom firstStart foundPaper
+returns-2 c = search-from _ _ (sym (ap firstStart (c .enum-told2 .given .1)) ∙ c .before .before .entry .ensures)
 
 loop-holds : tie.Need-loop-holds Inv-loop μ-loop
-unfolding walkOn firstWay
+unfolding searchedFrom firstStart
 loop-holds c =
-    let on = sym (ap firstWay (c .before .first .given .1)) ∙ c .before .before .before .entry .ensures in
+    let on = sym (ap firstStart (c .before .first .given .1)) ∙ c .before .before .before .entry .ensures in
     (search-from _ _ on, begins _ _ _ (sym on))
 
 look-at-requires : tie.Need-look-at-requires Inv-loop μ-loop
@@ -57,23 +56,24 @@ enum-known-after c = search needs
 
 -- what the step promised, where it goes on
 onward-is : (c : tie.After-known-told3 Inv-loop μ-loop)
-    → goOn (c .before .after .given .0 .0) ≡ step (now (c .before .before .before .before .before .before .before .before .before .before .args .field)) (c .before .before .before .before .loop .at)
-unfolding lookWay
-onward-is c = sym (ap lookWay (c .before .after .given .1)) ∙ c .before .before .before .look-at .ensures
+    → let field = now (c .before .before .before .before .before .before .before .before .before .before .args .field) in
+    step field (c .before .before .before .before .loop .at) ≡ goesOn (c .before .after .given .0 .0)
+unfolding lookTold
+onward-is c = told-goes _ _ _ (sym (ap lookTold (c .before .after .given .1)) ∙ c .before .before .before .look-at .ensures)
 
 loop-less : tie.Need-loop-less Inv-loop μ-loop
-loop-less c = omega (arith, further _ _ _ (sym (onward-is c)))
+loop-less c = omega (arith, further _ _ _ (onward-is c))
 
 loop-again : tie.Need-loop-again Inv-loop μ-loop
 loop-again c =
-    let inv = c .before .before .before .before .loop .inv in
-    (ends-after _ _ (inv .1) (onward-is c) ∙ inv .0, begins-after _ _ (inv .1) (onward-is c))
+    let (same, begin) = c .before .before .before .before .loop .inv in
+    (ap (endedPaper _) (ends-after _ _ begin (onward-is c)) ∙ same, begins-after _ _ begin (onward-is c))
 
 returns-3 : tie.Need-returns-3 Inv-loop μ-loop
-unfolding lookWay
+unfolding lookTold
 returns-3 c =
-    let inv = c .before .before .before .before .loop .inv in
-    ends-here _ _ (inv .1) (sym (ap lookWay (c .before .found .given .1)) ∙ c .before .before .before .look-at .ensures) ∙ inv .0
+    let (same, begin) = c .before .before .before .before .loop .inv in
+    told-ends _ _ _ begin (sym (ap lookTold (c .before .found .given .1)) ∙ c .before .before .before .look-at .ensures) ∙ same
 
 pub search-spec : {M : Type 1} → statement M
 search-spec =

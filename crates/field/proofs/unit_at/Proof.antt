@@ -1,8 +1,8 @@
 -- `field::unit_at` meets its contract: by what `entry` promises of the place asked and `unit_here` of the place behind it.
 use mathlib.Core.Path.{sym, _∙_, ap}
 use borrow.Author.Needs.{needs}
-use Rattle.field.specs.Field.{unitOn, anyUnitPaper}
-use Rattle.field.specs.Private.{firstWay}
+use Rattle.field.specs.Field.{unitFrom, anyUnitPaper}
+use Rattle.field.specs.Private.{firstStart}
 use Rattle.field.proofs.Units.{begins, unit-from}
 use Rattle.field.proofs.unit_at.Statement.{statement}
 use Rattle.field.proofs.unit_at.Tie as tie
@@ -14,9 +14,9 @@ enum-known-first : tie.Need-enum-known-first
 enum-known-first c = search needs
 
 unit-here-requires : tie.Need-unit-here-requires
-unfolding firstWay
+unfolding firstStart
 unit-here-requires c κs =
-    begins _ _ _ (sym (c .before .before .before .entry .ensures) ∙ ap firstWay (c .before .first .given .1)) .within
+    begins _ _ _ (sym (c .before .before .before .entry .ensures) ∙ ap firstStart (c .before .first .given .1)) .within
 
 enum-told : tie.Need-enum-told
 enum-told c = search needs
@@ -25,18 +25,18 @@ enum-told-2 : tie.Need-enum-told-2
 enum-told-2 c = search needs
 
 returns : tie.Need-returns
-unfolding unitOn firstWay
+unfolding unitFrom firstStart
 returns c =
     c .unit-here .ensures
-    ∙ unit-from _ _ (sym (ap firstWay (c .before .before .first .given .1)) ∙ c .before .before .before .before .entry .ensures)
+    ∙ unit-from _ _ (sym (ap firstStart (c .before .before .first .given .1)) ∙ c .before .before .before .before .entry .ensures)
 
 returns-2 : tie.Need-returns-2
-unfolding unitOn firstWay anyUnitPaper
-returns-2 c = unit-from _ _ (sym (ap firstWay (c .enum-told .given .1)) ∙ c .before .before .entry .ensures)
+unfolding unitFrom firstStart anyUnitPaper
+returns-2 c = unit-from _ _ (sym (ap firstStart (c .enum-told .given .1)) ∙ c .before .before .entry .ensures)
 
 returns-3 : tie.Need-returns-3
-unfolding unitOn firstWay anyUnitPaper
-returns-3 c = unit-from _ _ (sym (ap firstWay (c .enum-told2 .given .1)) ∙ c .before .before .entry .ensures)
+unfolding unitFrom firstStart anyUnitPaper
+returns-3 c = unit-from _ _ (sym (ap firstStart (c .enum-told2 .given .1)) ∙ c .before .before .entry .ensures)
 
 pub unit-at-spec : {M : Type 1} → statement M
 unit-at-spec =

@@ -1,8 +1,11 @@
 -- `listing::end_line` meets its contract: the word, the number and the line feed.
 use mathlib.Core.List.{_++_, append-assoc}
+use Prim.Native.Nat.{_+_}
 use native.Mathlib.Omega.{arith}
+use lib.ListN.{length}
 use borrow.Author.Needs.{needs}
 use Rattle.listing.specs.Lines.{decimal, endWord, lineFeed, endText}
+use Rattle.listing.proofs.Decimal.{mostDigits}
 use Rattle.listing.proofs.Held.{Holds, starts, has-room, has-room-for, with-text, with-number, written}
 use Rattle.listing.proofs.end_line.Statement.{statement}
 use Rattle.listing.proofs.end_line.Tie as tie
@@ -14,15 +17,15 @@ slice-aggregate-put-text : tie.Need-slice-aggregate-put-text
 slice-aggregate-put-text c = search needs
 
 put-text-requires : tie.Need-put-text-requires
-put-text-requires c κs = has-room (starts (c .before .blank .ensures)) 4 (omega arith)
+put-text-requires c κs = has-room (starts (c .before .blank .ensures)) (length endWord) (omega arith)
 
-word-is : (c : tie.After-put-text) → Holds (c .put-text .result) endWord 4
+word-is : (c : tie.After-put-text) → Holds (c .put-text .result) endWord (length endWord)
 word-is c = with-text (starts (c .before .before .blank .ensures)) endWord (c .put-text .ensures)
 
 put-decimal-requires : tie.Need-put-decimal-requires
 put-decimal-requires c κs = has-room-for (word-is c) _ (omega arith) (omega arith)
 
-size-is : (c : tie.After-put-decimal) → Holds (c .put-decimal .result) (endWord ++ decimal (c .before .before .before .before .args .size)) 24
+size-is : (c : tie.After-put-decimal) → Holds (c .put-decimal .result) (endWord ++ decimal (c .before .before .before .before .args .size)) (length endWord + mostDigits)
 size-is c = with-number (word-is (c .before)) (c .before .before .before .before .args .size) (omega arith) (c .put-decimal .ensures)
 
 put-requires : tie.Need-put-requires

@@ -14,9 +14,9 @@ use Rattle.listing.proofs.line_at.Tie as tie
 
 -- what `unit_at` promised, in the case of its answer that was found
 answer-is : (c : tie.After-unit-at) {case : AnyUnit} → c .unit-at .result ≡ case
-    → told (length (c .before .before .before .args .field .now)) (asked (c .before .before .before .args .place)) (anyUnitPaper case)
-    ≡ lineAt (c .before .before .before .args .field .now) (c .before .before .before .args .place)
-answer-is c e = told-of _ _ (c .before .if1 .left) e (c .unit-at .ensures)
+    → let a = c .before .before .before .args in
+    held (told (length (a .field .now)) (asked (a .place)) (anyUnitPaper case)) ≡ held (lineAt (a .field .now) (a .place))
+answer-is c e = ap held (told-of _ _ (c .before .if1 .left) e (c .unit-at .ensures))
 
 too-long-line-requires : tie.Need-too-long-line-requires
 too-long-line-requires c κs = search needs
@@ -25,7 +25,10 @@ last-line-requires : tie.Need-last-line-requires
 last-line-requires c κs = search needs
 
 returns : tie.Need-returns
-returns c = (stops _ (c .last-line .ensures) (c .before .too-long-line .ensures) ∙ ap held (sym (too-long _ _ (c .before .before .if1 .taken))), stops-short (c .last-line .ensures) (c .before .too-long-line .ensures))
+returns c =
+    let last = c .last-line .ensures in
+    let line = c .before .too-long-line .ensures in
+    (stops _ last line ∙ ap held (sym (too-long _ _ (c .before .before .if1 .taken))), stops-short last line)
 
 unit-at-requires : tie.Need-unit-at-requires
 unit-at-requires c κs = search needs
@@ -86,27 +89,49 @@ last-line-requires-6 c κs = search needs
 
 returns-2 : tie.Need-returns-2
 unfolding listedPaper held nextPaper told numbered taken anyUnitPaper accepted
-returns-2 c = (rw (c .unit-line .ensures .is, c .before .unit-place .ensures) (ap held (answer-is (c .before .before .before .before .before) (c .before .before .before .id .given .1))), used-fits (c .unit-line .ensures))
+returns-2 c =
+    let case = c .before .before .before in
+    (rw (c .unit-line .ensures .is, c .before .unit-place .ensures) (answer-is (case .before .before) (case .id .given .1)), used-fits (c .unit-line .ensures))
 
 returns-3 : tie.Need-returns-3
 unfolding told numbered taken anyUnitPaper accepted refusedBy
-returns-3 c = (stops _ (c .last-line2 .ensures) (c .before .end-line .ensures) ∙ ap held (answer-is (c .before .before .before .before) (c .before .before .enum-told .given .1)), stops-short (c .last-line2 .ensures) (c .before .end-line .ensures))
+returns-3 c =
+    let last = c .last-line2 .ensures in
+    let line = c .before .end-line .ensures in
+    let case = c .before .before in
+    (stops _ last line ∙ answer-is (case .before .before) (case .enum-told .given .1), stops-short last line)
 
 returns-4 : tie.Need-returns-4
 unfolding told numbered taken anyUnitPaper accepted refusedBy
-returns-4 c = (stops _ (c .last-line3 .ensures) (c .before .refused-line .ensures) ∙ ap held (answer-is (c .before .before .before .before) (c .before .before .enum-told2 .given .1)), stops-short (c .last-line3 .ensures) (c .before .refused-line .ensures))
+returns-4 c =
+    let last = c .last-line3 .ensures in
+    let line = c .before .refused-line .ensures in
+    let case = c .before .before in
+    (stops _ last line ∙ answer-is (case .before .before) (case .enum-told2 .given .1), stops-short last line)
 
 returns-5 : tie.Need-returns-5
 unfolding told numbered taken anyUnitPaper accepted refusedBy
-returns-5 c = (stops _ (c .last-line4 .ensures) (c .before .refused-line2 .ensures) ∙ ap held (answer-is (c .before .before .before .before) (c .before .before .enum-told3 .given .1)), stops-short (c .last-line4 .ensures) (c .before .refused-line2 .ensures))
+returns-5 c =
+    let last = c .last-line4 .ensures in
+    let line = c .before .refused-line2 .ensures in
+    let case = c .before .before in
+    (stops _ last line ∙ answer-is (case .before .before) (case .enum-told3 .given .1), stops-short last line)
 
 returns-6 : tie.Need-returns-6
 unfolding told numbered taken anyUnitPaper accepted refusedBy
-returns-6 c = (stops _ (c .last-line5 .ensures) (c .before .refused-at-line .ensures) ∙ ap held (answer-is (c .before .before .before .before .before) (c .before .before .before .at .given .1)), stops-short (c .last-line5 .ensures) (c .before .refused-at-line .ensures))
+returns-6 c =
+    let last = c .last-line5 .ensures in
+    let line = c .before .refused-at-line .ensures in
+    let case = c .before .before .before in
+    (stops _ last line ∙ answer-is (case .before .before) (case .at .given .1), stops-short last line)
 
 returns-7 : tie.Need-returns-7
 unfolding told numbered taken anyUnitPaper accepted refusedBy
-returns-7 c = (stops _ (c .last-line6 .ensures) (c .before .refused-at-line2 .ensures) ∙ ap held (answer-is (c .before .before .before .before .before) (c .before .before .before .at2 .given .1)), stops-short (c .last-line6 .ensures) (c .before .refused-at-line2 .ensures))
+returns-7 c =
+    let last = c .last-line6 .ensures in
+    let line = c .before .refused-at-line2 .ensures in
+    let case = c .before .before .before in
+    (stops _ last line ∙ answer-is (case .before .before) (case .at2 .given .1), stops-short last line)
 
 pub line-at-spec : {M : Type 1} → statement M
 line-at-spec =

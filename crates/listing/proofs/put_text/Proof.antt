@@ -5,7 +5,7 @@ use Prim.Native.Nat.{_≤_, _-_, _+_}
 use borrow.Author.Needs.{needs}
 use lib.ListN.{length, take}
 use lib.Seq.{take-all}
-use Rattle.listing.specs.Held.{lineOf}
+use Rattle.listing.specs.Held.{lineOf, room}
 use Rattle.listing.specs.Private.{textOf}
 use Rattle.listing.proofs.Held.{ready, none-yet, one-more, part-fits}
 use Rattle.listing.proofs.put_text.Statement.{statement}
@@ -13,7 +13,7 @@ use Rattle.listing.proofs.put_text.Tie as tie
 
 abbrev Inv-loop : tie.InvT-loop
 Inv-loop text longer₀ i₀ longer i =
-    (i ≤ length text) × (length (textOf longer₀) + length text ≤ 64) × (longer ≡ lineOf (textOf longer₀ ++ take i text))
+    (i ≤ length text) × (length (textOf longer₀) + length text ≤ room) × (longer ≡ lineOf (textOf longer₀ ++ take i text))
 
 abbrev μ-loop : tie.MeasureT-loop
 μ-loop text longer₀ i₀ longer i = length text - i
@@ -39,7 +39,8 @@ loop-less c = search needs
 loop-again : tie.Need-loop-again Inv-loop μ-loop
 loop-again c =
     let turn = c .before .before .before in
-    (search needs, turn .loop .inv .1, one-more (textOf (turn .before .before .args .line)) (turn .before .before .args .text .now) (turn .loop .i) (search needs) (turn .loop .inv .2) (c .put .ensures))
+    let a = turn .before .before .args in
+    (search needs, turn .loop .inv .1, one-more (textOf (a .line)) (a .text .now) (turn .loop .i) (search needs) (turn .loop .inv .2) (c .put .ensures))
 
 returns : tie.Need-returns Inv-loop μ-loop
 returns c =

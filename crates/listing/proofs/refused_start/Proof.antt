@@ -1,6 +1,7 @@
 -- `listing::refused_start` meets its contract: the word and the number.
 use native.Mathlib.Omega.{arith}
 use borrow.Author.Needs.{needs}
+use lib.ListN.{length}
 use Rattle.listing.specs.Lines.{refusedWord}
 use Rattle.listing.proofs.Held.{Holds, starts, has-room, has-room-for, with-text, with-number}
 use Rattle.listing.proofs.refused_start.Statement.{statement}
@@ -13,9 +14,9 @@ slice-aggregate-put-text : tie.Need-slice-aggregate-put-text
 slice-aggregate-put-text c = search needs
 
 put-text-requires : tie.Need-put-text-requires
-put-text-requires c κs = has-room (starts (c .before .blank .ensures)) 8 (omega arith)
+put-text-requires c κs = has-room (starts (c .before .blank .ensures)) (length refusedWord) (omega arith)
 
-word-is : (c : tie.After-put-text) → Holds (c .put-text .result) refusedWord 8
+word-is : (c : tie.After-put-text) → Holds (c .put-text .result) refusedWord (length refusedWord)
 word-is c = with-text (starts (c .before .before .blank .ensures)) refusedWord (c .put-text .ensures)
 
 put-decimal-requires : tie.Need-put-decimal-requires

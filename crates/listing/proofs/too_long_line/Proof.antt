@@ -3,6 +3,7 @@ use mathlib.Core.Path.{refl}
 use mathlib.Core.List.{_++_}
 use native.Mathlib.Omega.{arith}
 use borrow.Author.Needs.{needs}
+use lib.ListN.{length}
 use Rattle.listing.specs.Lines.{tooLongWord, lineFeed, tooLongText}
 use Rattle.listing.proofs.Held.{starts, has-room, with-text, written}
 use Rattle.listing.proofs.too_long_line.Statement.{statement}
@@ -15,7 +16,8 @@ slice-aggregate-put-text : tie.Need-slice-aggregate-put-text
 slice-aggregate-put-text c = search needs
 
 put-text-requires : tie.Need-put-text-requires
-put-text-requires c κs = has-room (starts (c .before .blank .ensures)) 9 (omega arith)
+unfolding tooLongText
+put-text-requires c κs = has-room (starts (c .before .blank .ensures)) (length tooLongText) (omega arith)
 
 returns : tie.Need-returns
 unfolding tooLongText

@@ -1,8 +1,10 @@
 -- `listing::unit_line` meets its contract: three numbers, each with what stands behind it.
 use mathlib.Core.List.{[], _++_, append-assoc}
+use Prim.Native.Nat.{_+_, _*_}
 use native.Mathlib.Omega.{arith}
 use borrow.Author.Needs.{needs}
 use Rattle.listing.specs.Lines.{decimal, space, lineFeed, unitText}
+use Rattle.listing.proofs.Decimal.{mostDigits}
 use Rattle.listing.proofs.Held.{Holds, starts, has-room, has-room-for, with-text, with-number, written}
 use Rattle.listing.proofs.unit_line.Statement.{statement}
 use Rattle.listing.proofs.unit_line.Tie as tie
@@ -16,27 +18,30 @@ nothing c = starts (c .blank .ensures)
 put-decimal-requires : tie.Need-put-decimal-requires
 put-decimal-requires c κs = has-room-for (nothing c) _ (omega arith) (omega arith)
 
-place-is : (c : tie.After-put-decimal) → Holds (c .put-decimal .result) (decimal (c .before .before .args .place)) 20
+place-is : (c : tie.After-put-decimal) → Holds (c .put-decimal .result) (decimal (c .before .before .args .place)) mostDigits
 place-is c = with-number (nothing (c .before)) (c .before .before .args .place) (omega arith) (c .put-decimal .ensures)
 
 put-requires : tie.Need-put-requires
 put-requires c κs = has-room (place-is c) 1 (omega arith)
 
-place-ends : (c : tie.After-put) → Holds (c .put .result) (decimal (c .before .before .before .args .place) ++ space) 21
+place-ends : (c : tie.After-put) → Holds (c .put .result) (decimal (c .before .before .before .args .place) ++ space) (mostDigits + 1)
 place-ends c = with-text (place-is (c .before)) space (c .put .ensures)
 
 put-decimal-requires-2 : tie.Need-put-decimal-requires-2
 put-decimal-requires-2 c κs = has-room-for (place-ends c) _ (omega arith) (omega arith)
 
+-- the place and the id, each with a space
 id-is : (c : tie.After-put-decimal2)
-    → Holds (c .put-decimal2 .result) ((decimal (c .before .before .before .before .args .place) ++ space) ++ decimal (c .before .before .before .before .args .id)) 41
+    → let a = c .before .before .before .before .args in
+    Holds (c .put-decimal2 .result) ((decimal (a .place) ++ space) ++ decimal (a .id)) (2 * mostDigits + 1)
 id-is c = with-number (place-ends (c .before)) (c .before .before .before .before .args .id) (omega arith) (c .put-decimal2 .ensures)
 
 put-requires-2 : tie.Need-put-requires-2
 put-requires-2 c κs = has-room (id-is c) 1 (omega arith)
 
 id-ends : (c : tie.After-put2)
-    → Holds (c .put2 .result) (((decimal (c .before .before .before .before .before .args .place) ++ space) ++ decimal (c .before .before .before .before .before .args .id)) ++ space) 42
+    → let a = c .before .before .before .before .before .args in
+    Holds (c .put2 .result) (((decimal (a .place) ++ space) ++ decimal (a .id)) ++ space) (2 * mostDigits + 2)
 id-ends c = with-text (id-is (c .before)) space (c .put2 .ensures)
 
 put-decimal-requires-3 : tie.Need-put-decimal-requires-3

@@ -1,7 +1,7 @@
 use borrow.Author.Tests.{eq-eqb, ne-eqb}
 use Rattle.packet.specs.Addresses.{addressOf, addressPaper}
 use Rattle.packet.specs.Lines.{packetByte}
-use Rattle.packet.proofs.Heard.{small-heard}
+use Rattle.coding.proofs.Heard.{message-heard, small-heard}
 use borrow.Author.Needs.{needs}
 use Rattle.packet.proofs.address_of.Statement.{statement}
 use Rattle.packet.proofs.address_of.Tie as tie
@@ -23,11 +23,17 @@ message-at-requires-2 : tie.Need-message-at-requires-2
 message-at-requires-2 c κs = search needs
 
 shown-by-requires : tie.Need-shown-by-requires
-shown-by-requires c κs = (small-heard _ _ (c .before .before .message-at .ensures), small-heard _ _ (c .message-at2 .ensures))
+shown-by-requires c κs = (
+  small-heard _ _ (message-heard _ _ (c .before .before .message-at .ensures)),
+  small-heard _ _ (message-heard _ _ (c .message-at2 .ensures)),
+)
 
 returns-2 : tie.Need-returns-2
 unfolding addressOf packetByte
-returns-2 c = rw (c .shown-by .ensures, c .before .before .before .message-at .ensures, c .before .message-at2 .ensures, eq-eqb _ _ (c .before .before .before .before .before .if1 .left))
+returns-2 c =
+    let one = message-heard _ _ (c .before .before .before .message-at .ensures) in
+    let two = message-heard _ _ (c .before .message-at2 .ensures) in
+    rw (c .shown-by .ensures, one, two, eq-eqb _ _ (c .before .before .before .before .before .if1 .left))
 
 pub address-of-spec : {M : Type 1} → statement M
 address-of-spec =

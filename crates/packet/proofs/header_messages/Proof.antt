@@ -10,7 +10,7 @@ use Rattle.coding.specs.Bits.{turnedByte}
 use Rattle.coding.specs.Hamming.{message}
 use Rattle.packet.specs.Private.{eightOf}
 use Rattle.packet.proofs.Good.{header-good, header-spoiled}
-use Rattle.packet.proofs.Heard.{heard-good, heard-refused}
+use Rattle.coding.proofs.Heard.{heard-good, heard-refused, message-heard}
 use Rattle.packet.proofs.header_messages.Statement.{statement}
 use Rattle.packet.proofs.header_messages.Tie as tie
 
@@ -42,7 +42,8 @@ returns : tie.Need-returns Inv-loop μ-loop
 unfolding eightOf
 returns c =
     let b = c .before .before .before .before .before in
-    sym (header-spoiled _ (b .before .before .pre) (b .loop .at) (search needs) (heard-refused _ (c .before .before .message-at .ensures) (c .enum-told .given .1)))
+    let heard = message-heard _ _ (c .before .before .message-at .ensures) in
+    sym (header-spoiled _ (b .before .before .pre) (b .loop .at) (search needs) (heard-refused _ heard (c .enum-told .given .1)))
 
 array-write-messages : tie.Need-array-write-messages Inv-loop μ-loop
 array-write-messages c = search needs
@@ -56,7 +57,13 @@ loop-less c = search needs
 loop-again : tie.Need-loop-again Inv-loop μ-loop
 loop-again c =
     let b = c .before .before .before .before .before .before in
-    (search needs, search needs, stored-more (λ (k m : ℕ). message (turnedByte (getD (b .before .before .args .packet .now) (2 + k) 0)) ≡ some m) (b .loop .messages) (b .loop .at) _ 0 (search needs) (b .loop .inv .2) (heard-good _ (c .before .before .before .message-at .ensures) _ (c .before .message .given .1)))
+    let packet = b .before .before .args .packet .now in
+    let here = heard-good _ (message-heard _ _ (c .before .before .before .message-at .ensures)) _ (c .before .message .given .1) in (
+      search needs,
+      search needs,
+      stored-more (λ (k m : ℕ). message (turnedByte (getD packet (2 + k) 0)) ≡ some m)
+          (b .loop .messages) (b .loop .at) _ 0 (search needs) (b .loop .inv .2) here,
+    )
 
 returns-2 : tie.Need-returns-2 Inv-loop μ-loop
 unfolding eightOf

@@ -52,7 +52,9 @@ control-of-requires c κs = search needs
 returns-3 : tie.Need-returns-3
 unfolding headerOf headerPaper
 returns-3 c =
-    rw (c .control-of .ensures, eq-eqb _ _ (c .before .before .before .before .before .if1 .left), eight-good _ (c .before .before .before .before .header-messages .ensures) (not-false _ (c .before .before .if2 .left)))
+    let whole = eq-eqb _ _ (c .before .before .before .before .before .if1 .left) in
+    let good = eight-good _ (c .before .before .before .before .header-messages .ensures) (not-false _ (c .before .before .if2 .left)) in
+    rw (c .control-of .ensures, whole, good)
 
 pub header-of-spec : {M : Type 1} → statement M
 header-of-spec =

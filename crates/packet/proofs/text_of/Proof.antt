@@ -7,6 +7,8 @@ use borrow.Author.Tests.{ne-eqb}
 use lib.ListN.{length, getD}
 use Rattle.laws.proofs.Lists.{stored-more}
 use Rattle.coding.specs.Bits.{turnedByte}
+use Rattle.grid.specs.Grid.{columns}
+use Rattle.packet.specs.Lines.{packetLength}
 use Rattle.packet.specs.Texts.{textOf, textPaper}
 use Rattle.packet.specs.declared.Text.{Text}
 use Rattle.packet.proofs.Bytes.{bytes-are}
@@ -15,10 +17,12 @@ use Rattle.packet.proofs.text_of.Statement.{statement}
 use Rattle.packet.proofs.text_of.Tie as tie
 
 abbrev Inv-loop : tie.InvT-loop
-Inv-loop packet bytes₀ column₀ bytes column = (column ≤ 40) × (40 ≡ length bytes) × (length packet ≡ 42) × ((k : ℕ) → k < column → getD bytes k 0 ≡ turnedByte (getD packet (2 + k) 0))
+Inv-loop packet bytes₀ column₀ bytes column =
+    (column ≤ columns) × (columns ≡ length bytes) × (length packet ≡ packetLength)
+    × ((k : ℕ) → k < column → getD bytes k 0 ≡ turnedByte (getD packet (2 + k) 0))
 
 abbrev μ-loop : tie.MeasureT-loop
-μ-loop packet bytes₀ column₀ bytes column = 40 - column
+μ-loop packet bytes₀ column₀ bytes column = columns - column
 
 returns : tie.Need-returns Inv-loop μ-loop
 unfolding textOf
@@ -61,7 +65,7 @@ returns-2 c =
     let packet = c .before .before .before .before .args .packet .now in
     let read = sym (whole-text packet (loop .inv .2)) in (
       ap (λ (t : Text). textPaper (t .answer)) read,
-      bytes-are packet 3 40 (omega arith) (loop .bytes) (loop .inv .1) (λ k h. loop .inv .3 k (omega arith)) ∙ ap (λ (t : Text). t .bytes) read,
+      bytes-are packet 3 columns (omega arith) (loop .bytes) (loop .inv .1) (λ k h. loop .inv .3 k (omega arith)) ∙ ap (λ (t : Text). t .bytes) read,
     )
 
 pub text-of-spec : {M : Type 1} → statement M

@@ -7,6 +7,7 @@ use borrow.Author.Needs.{needs}
 use lib.ListN.{length, getD, length-set, length-map}
 use lib.Seq.{ext-getD}
 use Rattle.laws.proofs.Lists.{getD-map, stored-more}
+use Rattle.grid.specs.Grid.{columns}
 use Rattle.display.specs.Display.{zeroCell}
 use Rattle.printing.specs.Printed.{cellByte}
 use Rattle.printing.proofs.bytes_of.Statement.{statement}
@@ -14,10 +15,10 @@ use Rattle.printing.proofs.bytes_of.Tie as tie
 
 abbrev Inv-loop : tie.InvT-loop
 Inv-loop cells bytes₀ column₀ bytes column =
-    (column ≤ 40) × (length cells ≡ 40) × (length bytes ≡ 40) × ((k : ℕ) → k < column → getD bytes k 0 ≡ cellByte (getD cells k zeroCell))
+    (column ≤ columns) × (length cells ≡ columns) × (length bytes ≡ columns) × ((k : ℕ) → k < column → getD bytes k 0 ≡ cellByte (getD cells k zeroCell))
 
 abbrev μ-loop : tie.MeasureT-loop
-μ-loop cells bytes₀ column₀ bytes column = 40 - column
+μ-loop cells bytes₀ column₀ bytes column = columns - column
 
 loop-holds : tie.Need-loop-holds Inv-loop μ-loop
 loop-holds c = (search needs, c .pre, search needs, λ k h. absurd (omega arith))

@@ -7,15 +7,17 @@ use native.Mathlib.Omega.{arith}
 use borrow.Author.Needs.{needs}
 use lib.ListN.{length, getD, set}
 use lib.Seq.{paste, paste-zero, paste-suc}
+use Rattle.grid.specs.Grid.{columns}
+use Rattle.printing.specs.Pages.{pageSize}
 use Rattle.printing.proofs.with_row.Statement.{statement}
 use Rattle.printing.proofs.with_row.Tie as tie
 
 abbrev Inv-loop : tie.InvT-loop
 Inv-loop from bytes text column₀ result column =
-    (column ≤ 40) × (from + 40 ≤ length text) × (length text ≡ 984) × (length bytes ≡ 40) × (result ≡ paste text from bytes column)
+    (column ≤ columns) × (from + columns ≤ length text) × (length text ≡ pageSize) × (length bytes ≡ columns) × (result ≡ paste text from bytes column)
 
 abbrev μ-loop : tie.MeasureT-loop
-μ-loop from bytes text column₀ result column = 40 - column
+μ-loop from bytes text column₀ result column = columns - column
 
 loop-holds : tie.Need-loop-holds Inv-loop μ-loop
 loop-holds c = (search needs, c .pre .0, c .pre .1, c .pre .2, paste-zero (c .args .text) (c .args .from) (c .args .t3))
@@ -56,7 +58,7 @@ returns c =
     let text = c .before .before .args .text in
     let from = c .before .before .args .from in
     let bytes = c .before .before .args .t3 in
-    let all : c .before .loop .column ≡ 40 = search needs in
+    let all : c .before .loop .column ≡ columns = search needs in
     c .before .loop .inv .4 ∙ ap (paste text from bytes) all
 
 pub with-row-spec : {M : Type 1} → statement M

@@ -1,107 +1,71 @@
--- `receive::feed` meets its contract: it stays in the chunk, goes some way at each turn, and leaves the record its length.
-use mathlib.Core.Path.{_≡_}
-use Prim.Native.Nat.{_≤_, _-_}
-use native.Mathlib.Omega.{arith}
+-- `receive::feed` meets its contract: the room has room for all the lines, and its first bytes are what is said of them.
+use mathlib.Core.Path.{_≡_, sym, _∙_}
+use mathlib.Core.List.{List}
+use Prim.Native.Nat.{ℕ, _*_, _≤_}
+use lib.ListN.{length, take, replicate, length-replicate}
+use lib.Seq.{length-take-le}
+use Rattle.announcing.specs.Said.{SaysAs, longest, said}
+use Rattle.receive.specs.Feeding.{fedFrom, linesAtOnce}
+use Rattle.receive.proofs.Feeding.{all-said, text-first, text-within}
 use borrow.Author.Needs.{needs}
-use lib.ListN.{length}
 use Rattle.receive.proofs.feed.Statement.{statement}
 use Rattle.receive.proofs.feed.Tie as tie
 
-abbrev Inv-loop : tie.InvT-loop
-Inv-loop lines record₀ receiver₀ watch₀ at₀ «record» receiver watch at = (at ≤ length lines) × (length lines ≤ 9000) × (length «record» ≡ length record₀)
+slice-aggregate-announce : tie.Need-slice-aggregate-announce
+slice-aggregate-announce c = search needs
 
-abbrev μ-loop : tie.MeasureT-loop
-μ-loop lines record₀ receiver₀ watch₀ at₀ «record» receiver watch at = length lines - at
+slice-aggregate-announce-2 : tie.Need-slice-aggregate-announce-2
+slice-aggregate-announce-2 c = search needs
 
-loop-holds : tie.Need-loop-holds Inv-loop μ-loop
-loop-holds c = search needs
-
-sub-take-recording : tie.Need-sub-take-recording Inv-loop μ-loop
-sub-take-recording c = search needs
-
-part-take-recording-start : tie.Need-part-take-recording-start Inv-loop μ-loop
-part-take-recording-start c = search needs
-
-part-take-recording-end : tie.Need-part-take-recording-end Inv-loop μ-loop
-part-take-recording-end c = search needs
-
-take-recording-requires : tie.Need-take-recording-requires Inv-loop μ-loop
-take-recording-requires c κs = search needs
-
-enum-told : tie.Need-enum-told Inv-loop μ-loop
-enum-told c = search needs
-
-watch-lines-requires : tie.Need-watch-lines-requires Inv-loop μ-loop
-watch-lines-requires c κs = search needs
-
-same-length : tie.Need-same-length Inv-loop μ-loop
-same-length c = search needs
-
-returns : tie.Need-returns Inv-loop μ-loop
-returns c = search needs
-
-enum-known-answer : tie.Need-enum-known-answer Inv-loop μ-loop
-enum-known-answer c = search needs
-
-text-for-requires : tie.Need-text-for-requires Inv-loop μ-loop
-text-for-requires c κs = search needs
-
-announce-requires : tie.Need-announce-requires Inv-loop μ-loop
+announce-requires : tie.Need-announce-requires
 announce-requires c κs = search needs
 
-watch-stop-requires : tie.Need-watch-stop-requires Inv-loop μ-loop
-watch-stop-requires c κs = search needs
+-- what was promised of all the lines
+module _ (c : tie.After-announce) where
+  abbrev start : tie.Start
+  start = c .before .before .before .before .before .before .before
 
-sub-bytes-of : tie.Need-sub-bytes-of Inv-loop μ-loop
-sub-bytes-of c = search needs
+  abbrev room : List ℕ
+  room = replicate (linesAtOnce * longest) 0
 
-bytes-of-requires : tie.Need-bytes-of-requires Inv-loop μ-loop
-bytes-of-requires c κs = search needs
+  size : length room ≡ linesAtOnce * longest
+  size = length-replicate {A = ℕ} (linesAtOnce * longest) 0
 
-add-at : tie.Need-add-at Inv-loop μ-loop
-add-at c =
-    let within = c .bytes-of .ensures .0 in
-    search needs
+  all : SaysAs (fedFrom (start .args .state)) (start .args .lines .now) (c .announce .result) (c .announce .last .1 .1 .1 .0) room (c .announce .last .1 .1 .1 .1 .0)
+  all = all-said (start .args .lines .now) room size (start .pre .1) (c .announce .ensures)
 
-loop-less : tie.Need-loop-less Inv-loop μ-loop
-loop-less c =
-    let left = c .before .before .before .before .before .before .before .before .before .before .before .before .before .before .loop-test .taken in
-    let on = c .bytes-of .ensures .1 (omega arith) in
-    let within = c .bytes-of .ensures .0 in
-    omega arith
+  first : take (c .announce .result .length) (c .announce .last .1 .1 .1 .1 .0) ≡ said (fedFrom (start .args .state)) (start .args .lines .now) .text
+  first = text-first (start .args .lines .now) room size (start .pre .1) (c .announce .ensures)
 
-loop-again : tie.Need-loop-again Inv-loop μ-loop
-loop-again c = search needs
+  within : c .announce .result .length ≤ length (c .announce .last .1 .1 .1 .1 .0)
+  within = text-within (start .args .lines .now) room size (start .pre .1) (c .announce .ensures)
 
-same-length-2 : tie.Need-same-length-2 Inv-loop μ-loop
-same-length-2 c = search needs
+array-share-prefix-room : tie.Need-array-share-prefix-room
+array-share-prefix-room c = within (c .before .before)
 
-returns-2 : tie.Need-returns-2 Inv-loop μ-loop
-returns-2 c = search needs
+slice-aggregate-write-said : tie.Need-slice-aggregate-write-said
+slice-aggregate-write-said c = 
+    let call = c .before .before .before in
+    sym (length-take-le (call .announce .result .length) (call .announce .last .1 .1 .1 .1 .0) (within call))
+
+write-said-requires : tie.Need-write-said-requires
+write-said-requires c κs = 
+    first (c .before .before .before)
+
+returns : tie.Need-returns
+returns c = 
+    let call = c .before .before .before .before .before .before in
+    let says = all call in
+    (record { kept = says .kept; watched = says .watched; left = says .left }, call .announce .kept .1 .1 .1 .0 ∙ start call .pre .0)
 
 pub feed-spec : {M : Type 1} → statement M
 feed-spec =
     tie.close
     (tie.spec
-    Inv-loop
-    μ-loop
-    loop-holds
-    sub-take-recording
-    part-take-recording-start
-    part-take-recording-end
-    take-recording-requires
-    enum-told
-    watch-lines-requires
-    same-length
-    returns
-    enum-known-answer
-    text-for-requires
+    slice-aggregate-announce
+    slice-aggregate-announce-2
     announce-requires
-    watch-stop-requires
-    sub-bytes-of
-    bytes-of-requires
-    add-at
-    loop-less
-    loop-again
-    same-length-2
-    returns-2)
+    array-share-prefix-room
+    slice-aggregate-write-said
+    write-said-requires
+    returns)

@@ -1,55 +1,61 @@
--- `receive::receive` meets its contract: it ends, and leaves the record its length.
-use mathlib.Core.Path.{_≡_}
+-- `receive::receive` is safe: what is left of a line is fed at the end.
+use mathlib.Core.Path.{sym}
+use native.Mathlib.Omega.{arith}
+use lib.ListN.{length-take}
+use lib.Seq.{length-take-le}
 use borrow.Author.Needs.{needs}
-use lib.ListN.{length}
 use Rattle.receive.proofs.receive.Statement.{statement}
 use Rattle.receive.proofs.receive.Tie as tie
 
-abbrev Inv-loop : tie.InvT-loop
-Inv-loop record₀ state₀ partial₀ turns₀ «record» state partial turns = length «record» ≡ length record₀
+new-requires : tie.Need-new-requires
+new-requires c κs = search needs
 
-abbrev μ-loop : tie.MeasureT-loop
-μ-loop record₀ state₀ partial₀ turns₀ «record» state partial turns = turns
+slice-aggregate-read-lines : tie.Need-slice-aggregate-read-lines
+slice-aggregate-read-lines c = search needs
 
-loop-holds : tie.Need-loop-holds Inv-loop μ-loop
-loop-holds c = search needs
+read-lines-requires : tie.Need-read-lines-requires
+read-lines-requires c κs = search needs
 
-one-chunk-requires : tie.Need-one-chunk-requires Inv-loop μ-loop
-one-chunk-requires c κs = search needs
+enum-told : tie.Need-enum-told
+enum-told c = search needs
 
-partial-after-requires : tie.Need-partial-after-requires Inv-loop μ-loop
-partial-after-requires c κs = search needs
-
-turns-left-requires : tie.Need-turns-left-requires Inv-loop μ-loop
-turns-left-requires c κs = search needs
-
-loop-less : tie.Need-loop-less Inv-loop μ-loop
-loop-less c = search needs
-
-loop-again : tie.Need-loop-again Inv-loop μ-loop
-loop-again c = search needs
-
-say-end-requires : tie.Need-say-end-requires Inv-loop μ-loop
-say-end-requires c κs = search needs
-
-same-length : tie.Need-same-length Inv-loop μ-loop
-same-length c = search needs
-
-returns : tie.Need-returns Inv-loop μ-loop
+returns : tie.Need-returns
 returns c = search needs
+
+array-share-prefix-chunk : tie.Need-array-share-prefix-chunk
+array-share-prefix-chunk c = search needs
+
+slice-aggregate-feed : tie.Need-slice-aggregate-feed
+slice-aggregate-feed c = 
+    let read = c .before .before .before .before .read-lines in
+    let size = read .ensures .0 .1 in
+    let small = read .ensures .1 in
+    sym (length-take-le (read .result .part) (read .last .1 .0) (omega arith))
+
+feed-requires : tie.Need-feed-requires
+feed-requires c κs = 
+    let read = c .before .before .before .before .read-lines in
+    let small = read .ensures .1 in
+    let size = length-take (read .result .part) (read .last .1 .0) in
+    (read .ensures .0 .0, omega arith)
+
+complain-at-end-requires : tie.Need-complain-at-end-requires
+complain-at-end-requires c κs = search needs
+
+returns-2 : tie.Need-returns-2
+returns-2 c = search needs
 
 pub receive-spec : {M : Type 1} → statement M
 receive-spec =
     tie.close
     (tie.spec
-    Inv-loop
-    μ-loop
-    loop-holds
-    one-chunk-requires
-    partial-after-requires
-    turns-left-requires
-    loop-less
-    loop-again
-    say-end-requires
-    same-length
-    returns)
+    new-requires
+    slice-aggregate-read-lines
+    read-lines-requires
+    enum-told
+    returns
+    array-share-prefix-chunk
+    slice-aggregate-feed
+    feed-requires
+    complain-at-end-requires
+    returns-2)

@@ -1,15 +1,15 @@
 -- `replay::answer_all` is safe and ends: the turns left fall, and what is lent keeps its length.
-use mathlib.Core.Path.{_≡_}
-use lib.ListN.{length}
 use borrow.Author.Needs.{needs}
+use lib.ListN.{length}
+use mathlib.Core.Path.{_≡_}
 use Rattle.replay.proofs.answer_all.Statement.{statement}
 use Rattle.replay.proofs.answer_all.Tie as tie
 
 abbrev Inv-loop : tie.InvT-loop
-Inv-loop line₀ room₀ spare₀ turns₀ line room spare turns = (length line₀ ≡ length line) × (length room₀ ≡ length room) × (length spare₀ ≡ length spare)
+Inv-loop line₀ room₀ turns₀ line room turns = (length line₀ ≡ length line) × (length room₀ ≡ length room)
 
 abbrev μ-loop : tie.MeasureT-loop
-μ-loop line₀ room₀ spare₀ turns₀ line room spare turns = turns
+μ-loop line₀ room₀ turns₀ line room turns = turns
 
 loop-holds : tie.Need-loop-holds Inv-loop μ-loop
 loop-holds c = search needs
@@ -23,9 +23,6 @@ same-length c = search needs
 same-length-2 : tie.Need-same-length-2 Inv-loop μ-loop
 same-length-2 c = search needs
 
-same-length-3 : tie.Need-same-length-3 Inv-loop μ-loop
-same-length-3 c = search needs
-
 returns : tie.Need-returns Inv-loop μ-loop
 returns c = search needs
 
@@ -38,14 +35,11 @@ loop-less c = search needs
 loop-again : tie.Need-loop-again Inv-loop μ-loop
 loop-again c = search needs
 
+same-length-3 : tie.Need-same-length-3 Inv-loop μ-loop
+same-length-3 c = search needs
+
 same-length-4 : tie.Need-same-length-4 Inv-loop μ-loop
 same-length-4 c = search needs
-
-same-length-5 : tie.Need-same-length-5 Inv-loop μ-loop
-same-length-5 c = search needs
-
-same-length-6 : tie.Need-same-length-6 Inv-loop μ-loop
-same-length-6 c = search needs
 
 returns-2 : tie.Need-returns-2 Inv-loop μ-loop
 returns-2 c = search needs
@@ -60,12 +54,10 @@ answer-all-spec =
     answer-next-requires
     same-length
     same-length-2
-    same-length-3
     returns
     sub-turns
     loop-less
     loop-again
+    same-length-3
     same-length-4
-    same-length-5
-    same-length-6
     returns-2)

@@ -1,14 +1,15 @@
 -- `replay::forms::all_cells` is safe and ends: the cells left fall.
-use borrow.Author.Needs.{needs}
 use Prim.Native.Nat.{_-_}
+use Rattle.grid.specs.Grid.{cellCount}
+use borrow.Author.Needs.{needs}
 use Rattle.replay.proofs.forms.all_cells.Statement.{statement}
 use Rattle.replay.proofs.forms.all_cells.Tie as tie
 
 abbrev Inv-loop : tie.InvT-loop
-Inv-loop form all₀ at₀ all at = Unit {0}
+Inv-loop bytes all₀ at₀ all at = Unit {0}
 
 abbrev μ-loop : tie.MeasureT-loop
-μ-loop form all₀ at₀ all at = 960 - at
+μ-loop bytes all₀ at₀ all at = cellCount - at
 
 loop-holds : tie.Need-loop-holds Inv-loop μ-loop
 loop-holds c = search needs

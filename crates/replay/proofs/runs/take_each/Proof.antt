@@ -1,36 +1,40 @@
--- `replay::runs::take_each` is safe and ends: the lines left fall, and what is lent keeps its length.
-use mathlib.Core.Path.{_≡_}
-use lib.ListN.{length}
+-- `replay::runs::take_each` is safe and ends: the bytes left fall, and the record keeps its length.
+use Prim.Native.Nat.{_-_}
 use borrow.Author.Needs.{needs}
+use lib.ListN.{length}
+use mathlib.Core.Path.{_≡_}
 use Rattle.replay.proofs.runs.take_each.Statement.{statement}
 use Rattle.replay.proofs.runs.take_each.Tie as tie
 
 abbrev Inv-loop : tie.InvT-loop
-Inv-loop input record₀ spare₀ current₀ place₀ left₀ «record» spare current place left = (length record₀ ≡ length «record») × (length spare₀ ≡ length spare)
+Inv-loop steps record₀ current₀ place₀ «record» current place = length record₀ ≡ length «record»
 
 abbrev μ-loop : tie.MeasureT-loop
-μ-loop input record₀ spare₀ current₀ place₀ left₀ «record» spare current place left = left
-
-byte-at-requires : tie.Need-byte-at-requires Inv-loop μ-loop
-byte-at-requires c κs = search needs
+μ-loop steps record₀ current₀ place₀ «record» current place = length steps - place
 
 loop-holds : tie.Need-loop-holds Inv-loop μ-loop
 loop-holds c = search needs
 
-after-line-requires : tie.Need-after-line-requires Inv-loop μ-loop
-after-line-requires c κs = search needs
-
-part-requires : tie.Need-part-requires Inv-loop μ-loop
-part-requires c κs = search needs
-
 rest-requires : tie.Need-rest-requires Inv-loop μ-loop
 rest-requires c κs = search needs
 
-take-one-requires : tie.Need-take-one-requires Inv-loop μ-loop
-take-one-requires c κs = search needs
+rest-requires-2 : tie.Need-rest-requires-2 Inv-loop μ-loop
+rest-requires-2 c κs = search needs
 
-sub-left : tie.Need-sub-left Inv-loop μ-loop
-sub-left c = search needs
+double-requires : tie.Need-double-requires Inv-loop μ-loop
+double-requires c κs = search needs
+
+cast-size : tie.Need-cast-size Inv-loop μ-loop
+cast-size c = search needs
+
+take-step-requires : tie.Need-take-step-requires Inv-loop μ-loop
+take-step-requires c κs = search needs
+
+add-place : tie.Need-add-place Inv-loop μ-loop
+add-place c = search needs
+
+add-place-2 : tie.Need-add-place-2 Inv-loop μ-loop
+add-place-2 c = search needs
 
 loop-less : tie.Need-loop-less Inv-loop μ-loop
 loop-less c = search needs
@@ -41,9 +45,6 @@ loop-again c = search needs
 same-length : tie.Need-same-length Inv-loop μ-loop
 same-length c = search needs
 
-same-length-2 : tie.Need-same-length-2 Inv-loop μ-loop
-same-length-2 c = search needs
-
 returns : tie.Need-returns Inv-loop μ-loop
 returns c = search needs
 
@@ -53,15 +54,15 @@ take-each-spec =
     (tie.spec
     Inv-loop
     μ-loop
-    byte-at-requires
     loop-holds
-    after-line-requires
-    part-requires
     rest-requires
-    take-one-requires
-    sub-left
+    rest-requires-2
+    double-requires
+    cast-size
+    take-step-requires
+    add-place
+    add-place-2
     loop-less
     loop-again
     same-length
-    same-length-2
     returns)

@@ -1,5 +1,5 @@
 -- `display::RowState::control` meets its contract: effects at its own cell and none after it, or none at its own cell and effects after it.
-use mathlib.Core.Path.{_≡_, sym, _∙_}
+use mathlib.Core.Path.{sym, _∙_}
 use Rattle.display.proofs.Codes.{control-shown, once-next, late-cell, late-next}
 use Rattle.display.proofs.Steps.{cellAt-is}
 use borrow.Author.Needs.{needs}

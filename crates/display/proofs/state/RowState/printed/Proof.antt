@@ -1,5 +1,5 @@
 -- `display::RowState::printed` meets its contract: a printed code has no effect of its own, so that what it shows, and what is held after it, is all.
-use mathlib.Core.Path.{_≡_, sym, _∙_}
+use mathlib.Core.Path.{sym, _∙_}
 use Rattle.display.proofs.Codes.{printed-cell, printed-next}
 use borrow.Author.Needs.{needs}
 use Rattle.display.proofs.state.RowState.printed.Statement.{statement}

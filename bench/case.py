@@ -1,0 +1,62 @@
+#!/usr/bin/env python3
+"""What the program `cost` is given for a piece of work: case.py WORK COUNT, with the way before the work where there are several.
+
+    lines: (value | lent | recording) (other | stored | opening | closing | pair) COUNT
+    fields: search (15 | 30 | 60) COUNT      records: (write | read) page COUNT      rows: row (letters | mosaics) COUNT
+
+The bytes come from the file `input` beside this script, and are no constants of the program, so that nothing is worked out beforehand: five pairs of data-lines, which
+are taken in turn, two rows of codes, a field of 60 units, and the record of a page with a header and one row.
+"""
+import os
+import sys
+
+with open(os.path.join(os.path.dirname(os.path.abspath(__file__)), "input"), "rb") as file:
+    INPUT = file.read()
+
+LINE = 45
+OPENING = INPUT[180:180 + LINE]
+
+# A work on lines: where its pair lies, whether a page is open before, whether the receiver of a turn goes on to the next, and how many lines a recording has, where it
+# is played once for each turn; else it is played once, and has as many lines as are counted.
+LINES = {
+    "other": (0, True, True, None),
+    "stored": (90, True, True, None),
+    "opening": (180, False, False, 1),
+    "closing": (360, True, False, 1),
+    "pair": (270, False, True, 2),
+}
+WAYS = {"value": b"l", "lent": b"m", "recording": b"r"}
+FIELDS = {"15": 691, "30": 1381, "60": 2761}
+ROWS = {"letters": 450, "mosaics": 490}
+
+
+def framed(work, count, data):
+    data = count.to_bytes(2, "big") + data
+    return work + len(data).to_bytes(2, "big") + data
+
+
+def on_lines(way, work, count):
+    at, is_open, carried, chunk = LINES[work]
+    pair = INPUT[at:at + 2 * LINE]
+    first = OPENING if is_open else b""
+    if way == "recording":
+        lines = (pair * count)[:LINE * (chunk or count)]
+        count = count // chunk if chunk else 1
+    else:
+        lines = pair
+    return framed(WAYS[way], count, bytes([carried, len(first)]) + first + lines)
+
+
+def main(way, work, count):
+    count = int(count)
+    if way in WAYS:
+        return on_lines(way, work, count)
+    return {
+        "search": lambda: framed(b"f", count, INPUT[530:530 + FIELDS.get(work, 0)]),
+        "write": lambda: framed(b"w", count, INPUT[3291:]),
+        "read": lambda: framed(b"d", count, INPUT[3291:]),
+        "row": lambda: framed(b"g", count, INPUT[ROWS.get(work, 0):][:40]),
+    }[way]()
+
+
+sys.stdout.buffer.write(main(*sys.argv[1:]))

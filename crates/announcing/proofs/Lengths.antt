@@ -1,0 +1,74 @@
+-- No text is longer than there is room for it.
+use mathlib.Core.Path.{_≡_, sym, _∙_, ap}
+use mathlib.Core.Bool.{Bool, true, false, cond}
+use mathlib.Core.List.{List, [], _∷_, _++_}
+use Prim.Native.Nat.{ℕ, zero, suc, _+_, _*_, _/_, _%_, _≤_}
+use native.Mathlib.Omega.{arith}
+use lib.Dec.{lit≤, ltb}
+use lib.ListN.{length, take, drop, length-append}
+use Rattle.grid.specs.Grid.{columns, rows}
+use Rattle.page.specs.Reading.{pageRead}
+use Rattle.page.specs.Records.{recordLength}
+use Rattle.page.specs.declared.Page.{Page}
+use Rattle.printing.specs.Pages.{lineFeed, pageSize, pageText}
+use Rattle.printing.proofs.Pages.{page-length}
+use Rattle.watch.specs.declared.Word.{Word}
+use Rattle.watch.specs.declared.Word.the-variants as word
+use Rattle.announcing.specs.Private.{cellsSaid}
+use Rattle.announcing.specs.Said.{headingSize, leftOutSize, longest}
+use Rattle.announcing.specs.Told.{announced, cleanText, digitText, doubtText, freshCharacters, headingText, leftOutText, leftOutWords, missingText, olderRows, oneOlder, pageSaid, rowNumber}
+
+either : (most : ℕ) (test : Bool) (a b : List ℕ) → length a ≤ most → length b ≤ most → length (cond test a b) ≤ most
+either most true a b p q = p
+either most false a b p q = q
+
+-- three bytes for each row
+pub number-length : (row : ℕ) → length (rowNumber row) ≤ 3
+unfolding rowNumber
+number-length row = either 3 (ltb row 10) _ _ (lit≤ tt) (lit≤ tt)
+
+pub older-length : (count : ℕ) (marks : List ℕ) → length (olderRows count marks) ≤ 3 * count
+unfolding olderRows
+older-length zero marks = omega arith
+older-length (suc row) marks =
+    let before = older-length row marks in
+    let this = either 3 (oneOlder (take columns (drop (columns * row) marks))) (rowNumber row) [] (number-length row) (lit≤ tt) in
+    let both = length-append (olderRows row marks) (cond (oneOlder (take columns (drop (columns * row) marks))) (rowNumber row) []) in
+    omega arith
+
+pub left-out-length : (marks : List ℕ) → length (leftOutText marks) ≤ leftOutSize
+unfolding leftOutText
+left-out-length marks =
+    let numbers = older-length rows marks in
+    let inner = length-append (olderRows rows marks) lineFeed in
+    let whole = length-append leftOutWords (olderRows rows marks ++ lineFeed) in
+    either (leftOutSize) (oneOlder marks) (leftOutWords ++ (olderRows rows marks ++ lineFeed)) [] (omega arith) (omega arith)
+
+-- ---- all that is said of a page
+
+module _ (page : Page) where
+  heading-length : (word : List ℕ) → length (headingText (page .magazine) (page .header) ++ word) ≡ headingSize + length word
+  unfolding headingText
+  heading-length word = length-append (headingText (page .magazine) (page .header)) word
+
+  cells-length : length (cellsSaid (page .cells)) ≤ leftOutSize + pageSize
+  cells-length =
+      let rows-out = left-out-length (page .cells .marks) in
+      let text = page-length (freshCharacters (page .cells)) in
+      let both = length-append (leftOutText (page .cells .marks)) (pageText (freshCharacters (page .cells))) in
+      omega arith
+
+  said-length : (which : Word) → length (pageSaid which page) ≤ longest
+  unfolding pageSaid
+  said-length word.None = omega arith
+  said-length word.Clean =
+      let cells = cells-length in
+      let line = heading-length (cleanText ++ cellsSaid (page .cells)) in
+      let both = length-append cleanText (cellsSaid (page .cells)) in
+      omega arith
+  said-length word.Doubt = let line = heading-length doubtText in omega arith
+  said-length word.Missing = let line = heading-length missingText in omega arith
+
+pub announced-length : (which : Word) (lent : List ℕ) → length (announced which lent) ≤ longest
+unfolding announced
+announced-length which lent = said-length (pageRead (take recordLength lent)) which

@@ -1,0 +1,134 @@
+-- `announcing::put_announced` meets its contract: by the word, nothing, a line, or a line and the page.
+use mathlib.Core.Path.{_≡_, refl, sym, _∙_, ap, subst}
+use mathlib.Core.List.{List, append-assoc}
+use Prim.Native.Nat.{ℕ}
+use native.Mathlib.Omega.{arith}
+use lib.ListN.{take}
+use Rattle.page.specs.Reading.{pageRead}
+use Rattle.page.specs.Records.{recordLength}
+use Rattle.page.specs.declared.Page.{Page}
+use Rattle.watch.specs.declared.Word.{Word}
+use Rattle.announcing.specs.Private.{Printable, cellsSaid}
+use Rattle.announcing.specs.Told.{announced, cleanText, headingText, pageSaid}
+use Rattle.announcing.proofs.Fresh.{printable-read}
+use Rattle.announcing.proofs.Putting.{as-text, put-none, put-then, same-room}
+use borrow.Author.Needs.{needs}
+use Rattle.announcing.proofs.put_announced.Statement.{statement}
+use Rattle.announcing.proofs.put_announced.Tie as tie
+
+-- what is said in the case of the word that was found
+by-word : (lent : List ℕ) {which found : Word} → which ≡ found → {page : Page} → page ≡ pageRead (take recordLength lent) → pageSaid found page ≡ announced which lent
+unfolding announced
+by-word lent {which} {found} e is = ap (pageSaid found) is ∙ ap (λ (w : Word). pageSaid w (pageRead (take recordLength lent))) (sym e)
+
+enum-told : tie.Need-enum-told
+enum-told c = search needs
+
+enum-told-2 : tie.Need-enum-told-2
+enum-told-2 c = search needs
+
+page-in-requires : tie.Need-page-in-requires
+page-in-requires c κs = search needs
+
+slice-aggregate-put-line : tie.Need-slice-aggregate-put-line
+slice-aggregate-put-line c = search needs
+
+put-line-requires : tie.Need-put-line-requires
+put-line-requires c κs = search needs
+
+put-cells-requires : tie.Need-put-cells-requires
+unfolding headingText
+put-cells-requires c κs =
+    let call = c .before .before .before .before in
+    let page = call .before .before .before .page-in in
+    let fits = call .before .before .before .before .before .before .before .before .pre in
+    let same = same-room (call .put-line .ensures) (omega arith) in
+    let ends = call .put-line .ensures .ends in
+    (omega arith, subst (λ (p : Page). Printable (p .cells)) (sym (page .ensures)) (printable-read _))
+
+enum-told-3 : tie.Need-enum-told-3
+enum-told-3 c = search needs
+
+page-in-requires-2 : tie.Need-page-in-requires-2
+page-in-requires-2 c κs = search needs
+
+slice-aggregate-put-line-2 : tie.Need-slice-aggregate-put-line-2
+slice-aggregate-put-line-2 c = search needs
+
+put-line-requires-2 : tie.Need-put-line-requires-2
+put-line-requires-2 c κs = search needs
+
+enum-told-4 : tie.Need-enum-told-4
+enum-told-4 c = search needs
+
+page-in-requires-3 : tie.Need-page-in-requires-3
+page-in-requires-3 c κs = search needs
+
+slice-aggregate-put-line-3 : tie.Need-slice-aggregate-put-line-3
+slice-aggregate-put-line-3 c = search needs
+
+put-line-requires-3 : tie.Need-put-line-requires-3
+put-line-requires-3 c κs = search needs
+
+returns : tie.Need-returns
+unfolding pageSaid
+returns c =
+    let start = c .before .before .before .before in
+    as-text (put-none (start .args .room .now) (start .args .at)) (by-word _ (c .enum-told .given .1) refl)
+
+same-length : tie.Need-same-length
+same-length c = search needs
+
+returns-2 : tie.Need-returns-2
+unfolding pageSaid headingText
+returns-2 c =
+    let call = c .before .before .before .before .before .before .before in
+    let page = call .before .before .before .page-in in
+    let fits = call .before .before .before .before .before .before .before .before .pre in
+    as-text (put-then (call .put-line .ensures) (omega arith) (c .before .before .put-cells .ensures))
+    (append-assoc (headingText (page .result .magazine) (page .result .header)) cleanText (cellsSaid (page .result .cells))
+    ∙ by-word (call .before .before .before .before .before .before .before .before .args .«record» .now) (call .before .before .before .before .enum-told2 .given .1) (page .ensures))
+
+same-length-2 : tie.Need-same-length-2
+same-length-2 c = search needs
+
+returns-3 : tie.Need-returns-3
+unfolding pageSaid
+returns-3 c =
+    let call = c .before .before in
+    as-text (call .put-line2 .ensures) (by-word _ (call .before .before .before .before .enum-told3 .given .1) (call .before .before .page-in2 .ensures))
+
+same-length-3 : tie.Need-same-length-3
+same-length-3 c = search needs
+
+returns-4 : tie.Need-returns-4
+unfolding pageSaid
+returns-4 c =
+    let call = c .before .before in
+    as-text (call .put-line3 .ensures) (by-word _ (call .before .before .before .before .enum-told4 .given .1) (call .before .before .page-in3 .ensures))
+
+pub put-announced-spec : {M : Type 1} → statement M
+put-announced-spec =
+    tie.close
+    (tie.spec
+    enum-told
+    enum-told-2
+    page-in-requires
+    slice-aggregate-put-line
+    put-line-requires
+    put-cells-requires
+    enum-told-3
+    page-in-requires-2
+    slice-aggregate-put-line-2
+    put-line-requires-2
+    enum-told-4
+    page-in-requires-3
+    slice-aggregate-put-line-3
+    put-line-requires-3
+    returns
+    same-length
+    returns-2
+    same-length-2
+    returns-3
+    same-length-3
+    returns-4)

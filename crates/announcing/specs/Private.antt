@@ -1,0 +1,62 @@
+-- For the contracts of private functions: no promise rests on these words.
+use mathlib.Core.Bool.{true}
+use mathlib.Core.List.{List, [], _++_}
+use mathlib.Core.Path.{_≡_}
+use Prim.Native.Nat.{ℕ, _+_, _*_, min}
+use lib.ListN.{length, take, drop}
+use Rattle.grid.specs.Grid.{cellCount}
+use Rattle.packet.specs.Lines.{lineLength}
+use Rattle.page.specs.declared.Cells.{Cells}
+use Rattle.printing.specs.Pages.{isPage, pageText}
+use Rattle.receiver.specs.Recordings.{Playing, played}
+use Rattle.watch.specs.Watched.{recordingWatched}
+use Rattle.watch.specs.declared.Watched.{Watched}
+use Rattle.announcing.specs.Said.{Saying}
+use Rattle.announcing.specs.Told.{announced, freshCharacters, leftOutText}
+use Rattle.announcing.specs.declared.Announced.{Announced}
+
+-- a text laid over a room from a place on
+abbrev pub laidAt : List ℕ → ℕ → List ℕ → List ℕ
+laidAt room at text = (take at room ++ text) ++ drop (at + length text) room
+
+-- it was put there, and this is the place behind it
+pub record Puts (text room : List ℕ) (at : ℕ) (after : List ℕ) (end : ℕ) : Type 0 where
+  pub laid : after ≡ laidAt room at text
+  pub ends : end ≡ at + length text
+
+-- cells as many as a page has
+abbrev pub Whole : Cells → Type 0
+Whole cells = (length (cells .characters) ≡ cellCount) × (length (cells .marks) ≡ cellCount)
+
+-- cells whose page is not refused by 25
+pub record Printable (cells : Cells) : Type 0 where
+  pub whole : Whole cells
+  pub shown : isPage (freshCharacters cells) ≡ true
+
+-- what is said of a clean page behind its line
+abbrev pub cellsSaid : Cells → List ℕ
+cellsSaid cells = leftOutText (cells .marks) ++ pageText (freshCharacters cells)
+
+-- what playing some lines to the next stop leaves and says
+unfoldable pub stopSaid : Saying → List ℕ → Saying
+stopSaid before lines =
+    let playing : Playing = played (before .receiver) lines (before .lent) in
+    let watched : Watched = recordingWatched (before .watch) (playing .used) (playing .receiver .«open») (playing .stopped) in
+    record {
+      receiver = playing .receiver;
+      watch = watched .watch;
+      lent = playing .lent;
+      text = before .text ++ announced (watched .word) (playing .lent);
+    }
+
+-- a state of the walk over some lines, with what was said so far
+abbrev pub standing : Announced → List ℕ → List ℕ → Saying
+standing state lent text = record { receiver = state .receiver; watch = state .watch; lent = lent; text = text }
+
+-- from one state to the next stop
+pub record Stops (before : Announced) (lines lent room : List ℕ) (after : Announced) (lent′ room′ : List ℕ) : Type 0 where
+  pub kept : after .receiver ≡ stopSaid (standing before lent []) lines .receiver
+  pub watched : after .watch ≡ stopSaid (standing before lent []) lines .watch
+  pub left : lent′ ≡ stopSaid (standing before lent []) lines .lent
+  pub used : after .used ≡ before .used + min (played (before .receiver) lines lent .used * lineLength) (length lines)
+  pub put : Puts (stopSaid (standing before lent []) lines .text) room (before .length) room′ (after .length)

@@ -1,0 +1,25 @@
+-- `asking::value_at` meets its contract: by whether the place is in the argument, and the byte a digit.
+use borrow.Author.Needs.{needs}
+use lib.ListN.{List·getD-eq-default}
+use Rattle.asking.specs.Asked.{valueAt}
+use borrow.Author.Needs.{needs}
+use Rattle.asking.proofs.value_at.Statement.{statement}
+use Rattle.asking.proofs.value_at.Tie as tie
+
+returns : tie.Need-returns
+unfolding valueAt
+returns c = rw (List·getD-eq-default (c .before .args .argument .now) 0 {n = c .before .args .place} (c .if1 .taken))
+
+shared-slice-read-byte : tie.Need-shared-slice-read-byte
+shared-slice-read-byte c = search needs
+
+returns-2 : tie.Need-returns-2
+unfolding valueAt
+returns-2 c = search needs
+
+returns-3 : tie.Need-returns-3
+unfolding valueAt
+returns-3 c = search needs
+
+pub value-at-spec : {M : Type 1} → statement M
+value-at-spec = tie.close (tie.spec returns shared-slice-read-byte returns-2 returns-3)

@@ -1,0 +1,9 @@
+pub mod Back
+pub mod Bits
+pub mod Groups
+pub mod Moves
+pub mod Places
+pub mod Splits
+pub mod Steps
+pub mod Unique
+pub mod Values

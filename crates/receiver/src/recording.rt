@@ -1,0 +1,97 @@
+// Data-lines end to end, played with the cells where they lie.
+ghost use mathlib.Core.Path.{_≡_};
+ghost use Prim.Native.Nat.{min};
+ghost use Rattle.packet.specs.Lines.{lineLength};
+ghost use Rattle.receiver.specs.Private.{EndsAs, Ready, isClosing, joined};
+ghost use Rattle.receiver.specs.Recordings.{played};
+use crate::Closing;
+use crate::Played;
+use crate::effects::Standing;
+use crate::effects::answer_of;
+use crate::effects::follow;
+use crate::kinds::Seen;
+use crate::looking::Looked;
+use crate::looking::look_at_line;
+use grid::CELLS;
+use packet::LINE_LENGTH;
+
+fn line_size(rest: usize) -> usize
+    ensures { λ r. ⌜ r ≡ min lineLength rest ⌝ }
+{
+    if rest < LINE_LENGTH {
+        rest
+    } else {
+        LINE_LENGTH
+    }
+}
+
+// How playing ended: the receiver but for its cells, the lines used, and the end or the answer that it stopped at.
+pub(crate) struct Ended {
+    pub(crate) standing: Standing,
+    pub(crate) used: usize,
+    pub(crate) answer: Played,
+}
+
+fn stops(closing: Closing) -> bool
+    ensures { λ r. ⌜ r ≡ isClosing closing ⌝ }
+{
+    match closing {
+        Closing::None => false,
+        Closing::Clean => true,
+        Closing::Doubt => true,
+    }
+}
+
+// Lines end to end, for a receiver that is known to be lawful and a record that is long enough. A line of another's is passed over at once.
+pub(crate) fn play(
+    start: Standing,
+    recording: &[u8],
+    characters: &mut [u8; CELLS],
+    marks: &mut [u8; CELLS],
+    record: &mut [u8],
+) -> Ended
+    requires { ⌜ Ready start (now characters) (now marks) (now «record») ⌝ }
+    ensures { λ r. ⌜ EndsAs (played (joined start (now (characters .entry)) (now (marks .entry))) (now (recording .entry)) (now («record» .entry))) r (now (characters .exit)) (now (marks .exit)) (now («record» .exit)) ⌝ }
+{
+    let ours = start.selection.magazine;
+    let mut standing = start;
+    let mut at = 0;
+    let mut used = 0;
+    while at < recording.len() {
+        let size = line_size(recording.len() - at);
+        let line = &recording[at..at + size];
+        at += size;
+        used += 1;
+        match look_at_line(ours, line) {
+            Looked::Refused(answer) => {
+                return Ended {
+                    standing,
+                    used,
+                    answer: Played::Stopped(answer),
+                };
+            }
+            Looked::Shows(shows) => {
+                if let Seen::Another = shows {
+                    continue;
+                }
+                let packet = packet::packet_of(line);
+                let done = follow(standing, shows, packet, characters, marks, record);
+                let next = done.standing;
+                standing = next;
+                let closing = done.closing;
+                if stops(closing) {
+                    return Ended {
+                        standing,
+                        used,
+                        answer: Played::Stopped(answer_of(done)),
+                    };
+                }
+            }
+        }
+    }
+    Ended {
+        standing,
+        used,
+        answer: Played::End,
+    }
+}
