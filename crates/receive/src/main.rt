@@ -208,7 +208,9 @@ fn complain_counts(watch: Watch) {
     complain_refused(watch.by10, b" refused by 10");
     console::complain(b"\n");
     if watch.by11 > watch.lines / 2 {
-        console::complain(b"most lines are refused by 11: the bytes may be in another order, or the recording of another kind\n");
+        console::complain(
+            b"most lines are refused by 11: the bytes may be in another order, or the recording of another kind\n",
+        );
     }
 }
 
@@ -275,7 +277,9 @@ fn start(selection: Selection, argument: &[u8]) {
 
 fn main() {
     if os::arg_count() > 2 {
-        console::complain(b"one argument alone: give a page number, 100 to 899, or 100/1234 with a time\n");
+        console::complain(
+            b"one argument alone: give a page number, 100 to 899, or 100/1234 with a time\n",
+        );
         return;
     }
     let mut argument = [0u8; ARGUMENT];

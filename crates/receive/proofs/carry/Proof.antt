@@ -21,13 +21,13 @@ add-chunk : tie.Need-add-chunk Inv-loop μ-loop
 add-chunk c = search needs
 
 slice-read-chunk : tie.Need-slice-read-chunk Inv-loop μ-loop
-slice-read-chunk c = 
+slice-read-chunk c =
     let size = c .before .before .loop .inv .2 .sized in
     let fits = c .before .before .loop .inv .1 in
     omega arith
 
 slice-write-chunk : tie.Need-slice-write-chunk Inv-loop μ-loop
-slice-write-chunk c = 
+slice-write-chunk c =
     let size = c .before .before .loop .inv .2 .sized in
     let fits = c .before .before .loop .inv .1 in
     omega arith
@@ -39,7 +39,7 @@ loop-less : tie.Need-loop-less Inv-loop μ-loop
 loop-less c = search needs
 
 loop-again : tie.Need-loop-again Inv-loop μ-loop
-loop-again c = 
+loop-again c =
     let turn = c .before .before in
     let fits = turn .loop .inv .1 in
     (search needs, fits, moves-more (turn .loop .inv .2) (omega arith))
@@ -48,7 +48,7 @@ same-length : tie.Need-same-length Inv-loop μ-loop
 same-length c = c .before .loop .inv .2 .sized
 
 returns : tie.Need-returns Inv-loop μ-loop
-returns c = 
+returns c =
     let all : c .before .loop .i ≡ c .before .before .args .count = search needs in
     all-moved (c .before .loop .inv .2) all (c .before .loop .inv .1)
 

@@ -44,16 +44,16 @@ array-share-prefix-room : tie.Need-array-share-prefix-room
 array-share-prefix-room c = within (c .before .before)
 
 slice-aggregate-write-said : tie.Need-slice-aggregate-write-said
-slice-aggregate-write-said c = 
+slice-aggregate-write-said c =
     let call = c .before .before .before in
     sym (length-take-le (call .announce .result .length) (call .announce .last .1 .1 .1 .1 .0) (within call))
 
 write-said-requires : tie.Need-write-said-requires
-write-said-requires c κs = 
+write-said-requires c κs =
     first (c .before .before .before)
 
 returns : tie.Need-returns
-returns c = 
+returns c =
     let call = c .before .before .before .before .before .before in
     let says = all call in
     (record { kept = says .kept; watched = says .watched; left = says .left }, call .announce .kept .1 .1 .1 .0 ∙ start call .pre .0)

@@ -17,14 +17,14 @@ slice-reshare-prefix-feed : tie.Need-slice-reshare-prefix-feed
 slice-reshare-prefix-feed c = search needs
 
 slice-aggregate-feed : tie.Need-slice-aggregate-feed
-slice-aggregate-feed c = 
+slice-aggregate-feed c =
     let start = c .before .before in
     let size = start .pre .0 .1 in
     let fits = start .pre .1 in
     sym (length-take-le (start .args .full - start .args .full % lineLength) (start .args .chunk .now) (omega arith))
 
 feed-requires : tie.Need-feed-requires
-feed-requires c κs = 
+feed-requires c κs =
     let start = c .before .before in
     let fits = start .pre .1 in
     let size = length-take (start .args .full - start .args .full % lineLength) (start .args .chunk .now) in
@@ -40,7 +40,7 @@ same-length : tie.Need-same-length
 same-length c = search needs
 
 returns : tie.Need-returns
-returns c = 
+returns c =
     let call = c .before .before .before .before in
     let feed = call .before .before .feed in
     let start = call .before .before .before .before .before in

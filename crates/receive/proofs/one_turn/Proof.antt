@@ -27,12 +27,12 @@ fits-here c =
     omega arith
 
 add-feed-whole : tie.Need-add-feed-whole
-add-feed-whole c = 
+add-feed-whole c =
     let fits = fits-here (c .before) in
     omega arith
 
 feed-whole-requires : tie.Need-feed-whole-requires
-feed-whole-requires c κs = 
+feed-whole-requires c κs =
     let call = c .before .before .before .before .before .before in
     let start = call .before .before .before in
     ((start .pre .0 .0, call .read-behind .kept .0 ∙ start .pre .0 .1), fits-here (c .before))

@@ -26,7 +26,7 @@ loop-less : tie.Need-loop-less Inv-loop μ-loop
 loop-less c = search needs
 
 loop-again : tie.Need-loop-again Inv-loop μ-loop
-loop-again c = 
+loop-again c =
     let call = c .before .before .before in
     (call .one-turn .ensures, call .one-turn .kept .1 .0 ∙ call .before .before .before .before .loop .inv .1)
 

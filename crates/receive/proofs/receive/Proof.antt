@@ -26,14 +26,14 @@ array-share-prefix-chunk : tie.Need-array-share-prefix-chunk
 array-share-prefix-chunk c = search needs
 
 slice-aggregate-feed : tie.Need-slice-aggregate-feed
-slice-aggregate-feed c = 
+slice-aggregate-feed c =
     let read = c .before .before .before .before .read-lines in
     let size = read .ensures .0 .1 in
     let small = read .ensures .1 in
     sym (length-take-le (read .result .part) (read .last .1 .0) (omega arith))
 
 feed-requires : tie.Need-feed-requires
-feed-requires c κs = 
+feed-requires c κs =
     let read = c .before .before .before .before .read-lines in
     let small = read .ensures .1 in
     let size = length-take (read .result .part) (read .last .1 .0) in
