@@ -31,8 +31,7 @@ ROWS = {"letters": 450, "mosaics": 490}
 
 
 def framed(work, count, data):
-    data = count.to_bytes(2, "big") + data
-    return work + len(data).to_bytes(2, "big") + data
+    return work + b"".join(len(part).to_bytes(2, "big") + part for part in (count.to_bytes(2, "big"), data))
 
 
 def on_lines(way, work, count):

@@ -268,7 +268,7 @@ fn done(work: u8, input: &[u8], count: usize) -> u8 {
 fn main() {
     let mut room = [0u8; cases::LONGEST];
     let work = cases::next_sort();
+    let count = cases::double(cases::next_part(&mut room)) as usize;
     let input = cases::next_part(&mut room);
-    let count = cases::double(input) as usize;
-    cases::put_byte(done(work, cases::rest(input, 2), count));
+    cases::put_byte(done(work, input, count));
 }

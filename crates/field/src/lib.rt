@@ -2,7 +2,7 @@
 // field's start, where the identifier stands.
 ghost use mathlib.Core.Bool.{false};
 ghost use mathlib.Core.Path.{_≡_};
-ghost use Prim.Native.Nat.{_≤_};
+ghost use Prim.Native.Nat.{_+_, _≤_, _<_};
 ghost use lib.ListN.{length};
 ghost use Rattle.field.specs.Field.{afterAt, anyUnitPaper, here, high, known, lengthAt, low, noField, start, teletextId, unitAnswer, unitAt, wrongLength};
 ghost use Rattle.field.specs.Search.{foundPaper, linePasses, offsetPasses, searched, step};
@@ -124,25 +124,24 @@ fn entry(field: &[u8], place: usize) -> First
     First::At(place)
 }
 
-// The length byte of a unit, or 0 where it is missing: with id and length byte the unit then runs past the field all the same.
 fn length_at(field: &[u8], place: usize) -> u8
-    requires { ⌜ place ≤ length (now field) ⌝ }
+    requires { ⌜ place + 1 < length (now field) ⌝ }
     ensures { λ r. ⌜ r ≡ lengthAt (now (field .entry)) place ⌝ }
 {
-    if field.len() - place > 1 {
-        return field[place + 1];
-    }
-    0
+    field[place + 1]
 }
 
-// The unit at a place of the field or at its end: 15, then 16. It is what is left of the field that is compared, so that no sum can wrap.
+// The unit at a place of the field or at its end: 15, also where the length byte is missing, then 16. It is what is left of the field that is compared, so that no sum can wrap.
 fn unit_here(field: &[u8], place: usize) -> AnyUnit
     requires { ⌜ place ≤ length (now field) ⌝ }
     ensures { λ r. ⌜ anyUnitPaper r ≡ unitAnswer (now (field .entry)) place (here (now (field .entry)) place) ⌝ }
 {
     let left = field.len() - place;
-    if left == 0 {
-        return AnyUnit::End;
+    if left < HEAD {
+        if left == 0 {
+            return AnyUnit::End;
+        }
+        return AnyUnit::Short(place);
     }
     let id = field[place];
     let length = length_at(field, place);

@@ -1,21 +1,20 @@
 -- The checks of 24 and 23 cell by cell, and what each answer shows.
-use mathlib.Core.Path.{_≡_, refl, _∙_, sym, subst}
-use mathlib.Core.Bool.{Bool, true, false, not, cond, _&&_, _||_, Bool·not-not, and-comm, and-true}
-use mathlib.Core.List.{List, [], _∷_}
-use Prim.Native.Nat.{ℕ, zero, suc, _+_, _-_, _^_, _<_, _≤_}
+use mathlib.Core.Path.{_≡_, refl, _∙_, sym}
+use mathlib.Core.Bool.{Bool, true, false, not, cond, _&&_, _||_, Bool·not-not, and-comm, and-true, or-false}
+use mathlib.Core.List.{List}
+use Prim.Native.Nat.{ℕ, suc, _+_, _-_, _^_, _<_, _≤_}
 use native.Mathlib.Nat.{le-trans}
 use native.Mathlib.Numerals.{add-one}
 use native.Mathlib.Omega.{arith}
 use borrow.Author.Tests.{leb-true, leb-false, le-leb, lt-leb}
 use lib.Bits.{bitOr, or-add-and, or-lt, and-le-l, and-le-r}
-use lib.Dec.{T, eqb, leb, ltb, ltb→lt}
+use lib.Dec.{eqb, leb, ltb}
 use lib.ListN.{length, getD, take, drop, drop-of-length-le}
 use lib.Seq.{drop-cons}
 use Rattle.laws.specs.Every.{every, everyPair}
 use Rattle.laws.specs.Fields.{fits}
-use Rattle.laws.proofs.Bools.{both-left, both-right}
 use Rattle.laws.proofs.Every.{every-more}
-use Rattle.laws.proofs.Opposite.{not-and, below-is}
+use Rattle.laws.proofs.Opposite.{at-most-is, below-is, not-and}
 use Rattle.packet.specs.Texts.{headerColumn}
 use Rattle.packing.specs.Cells.{characterWidth, markWidth}
 use Rattle.page.specs.Lawful.{cellLawful, cellsChecked, cellsFit, cellsLawful, highestMark, isNever, never, space}
@@ -33,48 +32,19 @@ unfolding isNever
 marked-more marks column h =
     rw (add-one column, every-more isNever marks column 0 h) (sym (not-and (every isNever (take column marks)) (eqb (getD marks column 0) never)))
 
--- ---- marks that fit their bits: one alone is unlawful
-
-abbrev pub unlawfulMark : ℕ
-unlawfulMark = suc highestMark
-
-abbrev pub cellSound : ℕ → ℕ → Bool
-cellSound mark character = not (eqb mark unlawfulMark) && (not (eqb mark never) || eqb character space)
-
-abbrev pub cellsSound : Cells → Bool
-cellsSound cells = everyPair cellSound (cells .marks) (cells .characters) && every isNever (take headerColumn (cells .marks))
+-- ---- what is gathered of the cells
 
 -- the largest number that fits so many bits
 abbrev pub largest : ℕ → ℕ
 largest width = 2 ^ width - 1
 
--- whether the gathered bits show a cell that is too large
+-- whether the characters' bits and the highest mark show a cell that is too large
 abbrev pub large : ℕ → ℕ → Bool
-large character-bits mark-bits = ltb (largest characterWidth) character-bits || ltb (largest markWidth) mark-bits
+large character-bits highest = ltb (largest characterWidth) character-bits || ltb (largest markWidth) highest
 
-mark-sound : (mark : ℕ) → T (fits markWidth mark) → not (eqb mark unlawfulMark) ≡ leb mark highestMark
-unfolding fits
-mark-sound zero t = refl
-mark-sound (suc zero) t = refl
-mark-sound (suc (suc zero)) t = refl
-mark-sound (suc (suc (suc zero))) t = refl
-mark-sound (suc (suc (suc (suc mark)))) t = absurd (let h = ltb→lt (suc (suc (suc (suc mark)))) 4 t in omega arith)
-
-each-sound : (marks characters : List ℕ) → T (every (fits markWidth) marks) → everyPair cellSound marks characters ≡ everyPair cellLawful marks characters
-unfolding everyPair every fits cellLawful
-each-sound [] [] t = refl
-each-sound [] (x ∷ xs) t = refl
-each-sound (m ∷ ms) [] t = refl
-each-sound (m ∷ ms) (x ∷ xs) t =
-    let others = every (fits markWidth) ms in
-    rw (mark-sound m (both-left (fits markWidth m) others t), each-sound ms xs (both-right (fits markWidth m) others t))
-
-pub sound-lawful : (cells : Cells) → cellsFit cells ≡ true → cellsSound cells ≡ cellsLawful cells
-unfolding cellsFit cellsLawful
-sound-lawful cells e =
-    let marks = every (fits markWidth) (cells .marks) in
-    let characters = every (fits characterWidth) (cells .characters) in
-    rw (each-sound (cells .marks) (cells .characters) (both-left marks characters (subst T (sym e) tt)))
+-- whether a mark above the lawful ones was seen, or something else that is unlawful
+abbrev pub wrong : Bool → ℕ → Bool
+wrong unlawful highest = unlawful || ltb highestMark highest
 
 -- ---- one cell more
 
@@ -104,12 +74,32 @@ module _ (k a b : ℕ) where
   or-reaches : leb (2 ^ k) (bitOr a b) ≡ (leb (2 ^ k) a || leb (2 ^ k) b)
   or-reaches = reached (leb (2 ^ k) a) (leb (2 ^ k) b) refl refl
 
-lawful-cases : (unlawful p z s r : Bool) → (not unlawful && ((not p && (not z || s)) && r)) ≡ (not ((unlawful || p) || (z && not s)) && r)
-lawful-cases true p z s r = refl
-lawful-cases false true z s r = refl
-lawful-cases false false true true r = refl
-lawful-cases false false true false r = refl
-lawful-cases false false false s r = refl
+-- the higher of two numbers reaches a bound just where one of them does
+module _ (bound a b : ℕ) where
+  higher-cases : (above p q : Bool) → ltb a b ≡ above → leb bound a ≡ p → leb bound b ≡ q → leb bound (cond above b a) ≡ (p || q)
+  higher-cases true false q e f g = g
+  higher-cases true true true e f g = g
+  higher-cases true true false e f g =
+      absurd (let l = leb-true (suc a) b e in let r = leb-true bound a f in let t = leb-false bound b g in omega arith)
+  higher-cases false true q e f g = f
+  higher-cases false false false e f g = f
+  higher-cases false false true e f g =
+      absurd (let l = leb-false (suc a) b e in let r = leb-true bound b g in let t = leb-false bound a f in omega arith)
+
+  higher-reaches : leb bound (cond (ltb a b) b a) ≡ (leb bound a || leb bound b)
+  higher-reaches = higher-cases (ltb a b) (leb bound a) (leb bound b) refl refl refl
+
+lawful-cases : (u h m z s r : Bool) → (not (u || h) && ((not m && (not z || s)) && r)) ≡ (not ((u || (z && not s)) || (h || m)) && r)
+lawful-cases true h m z s r = refl
+lawful-cases false true m true true r = refl
+lawful-cases false true m true false r = refl
+lawful-cases false true m false s r = refl
+lawful-cases false false true true true r = refl
+lawful-cases false false true true false r = refl
+lawful-cases false false true false s r = refl
+lawful-cases false false false true true r = refl
+lawful-cases false false false true false r = refl
+lawful-cases false false false false s r = refl
 
 module _ (characters marks : List ℕ) (at : ℕ) (c : at < length characters) (m : at < length marks) where
   abbrev character : ℕ
@@ -118,37 +108,42 @@ module _ (characters marks : List ℕ) (at : ℕ) (c : at < length characters) (
   abbrev mark : ℕ
   mark = getD marks at 0
 
-  pub fit-more : (character-bits mark-bits : ℕ) → (not (large character-bits mark-bits) && cellsFit (cellsOf (drop at characters) (drop at marks)))
-      ≡ (not (large (bitOr character-bits character) (bitOr mark-bits mark)) && cellsFit (cellsOf (drop (at + 1) characters) (drop (at + 1) marks)))
+  pub fit-more : (character-bits highest higher : ℕ) → higher ≡ cond (ltb highest mark) mark highest
+      → (not (large character-bits highest) && cellsFit (cellsOf (drop at characters) (drop at marks)))
+      ≡ (not (large (bitOr character-bits character) higher) && cellsFit (cellsOf (drop (at + 1) characters) (drop (at + 1) marks)))
   unfolding cellsFit every fits
-  fit-more character-bits mark-bits =
+  fit-more character-bits highest higher e =
       rw (
+        e,
         add-one at,
         drop-cons characters at 0 c,
         drop-cons marks at 0 m,
         below-is mark (2 ^ markWidth),
         below-is character (2 ^ characterWidth),
         or-reaches characterWidth character-bits character,
-        or-reaches markWidth mark-bits mark,
+        higher-reaches (2 ^ markWidth) highest mark,
       )
-      (fit-cases (ltb (largest markWidth) mark-bits) (ltb (largest characterWidth) character-bits) (ltb (largest markWidth) mark)
+      (fit-cases (ltb (largest markWidth) highest) (ltb (largest characterWidth) character-bits) (ltb (largest markWidth) mark)
       (ltb (largest characterWidth) character) (every (fits markWidth) (drop (suc at) marks)) (every (fits characterWidth) (drop (suc at) characters)))
 
-  pub sound-more : (unlawful : Bool) → (not unlawful && everyPair cellSound (drop at marks) (drop at characters))
-      ≡ (not ((unlawful || eqb mark unlawfulMark) || (eqb mark never && not (eqb character space)))
-      && everyPair cellSound (drop (at + 1) marks) (drop (at + 1) characters))
-  unfolding everyPair
-  sound-more unlawful =
-      rw (add-one at, drop-cons characters at 0 c, drop-cons marks at 0 m)
-      (lawful-cases unlawful (eqb mark unlawfulMark) (eqb mark never) (eqb character space)
-      (everyPair cellSound (drop (suc at) marks) (drop (suc at) characters)))
+  pub lawful-more : (unlawful : Bool) (highest higher : ℕ) → higher ≡ cond (ltb highest mark) mark highest
+      → (not (wrong unlawful highest) && everyPair cellLawful (drop at marks) (drop at characters))
+      ≡ (not (wrong (unlawful || (eqb mark never && not (eqb character space))) higher)
+      && everyPair cellLawful (drop (at + 1) marks) (drop (at + 1) characters))
+  unfolding everyPair cellLawful
+  lawful-more unlawful highest higher e =
+      rw (e, add-one at, drop-cons characters at 0 c, drop-cons marks at 0 m, at-most-is mark highestMark, higher-reaches (suc highestMark) highest mark)
+      (lawful-cases unlawful (ltb highestMark highest) (ltb highestMark mark) (eqb mark never) (eqb character space)
+      (everyPair cellLawful (drop (suc at) marks) (drop (suc at) characters)))
 
 -- ---- none asked yet, and all asked
 
-pub sound-first : (characters marks : List ℕ) (marked : Bool) → marked ≡ not (every isNever (take headerColumn marks))
-    → (not marked && everyPair cellSound marks characters) ≡ cellsSound (cellsOf characters marks)
-sound-first characters marks marked e =
-    rw (e, Bool·not-not (every isNever (take headerColumn marks))) (and-comm (every isNever (take headerColumn marks)) (everyPair cellSound marks characters))
+pub lawful-first : (characters marks : List ℕ) (marked : Bool) → marked ≡ not (every isNever (take headerColumn marks))
+    → (not (wrong marked 0) && everyPair cellLawful marks characters) ≡ cellsLawful (cellsOf characters marks)
+unfolding cellsLawful
+lawful-first characters marks marked e =
+    rw (or-false marked, e, Bool·not-not (every isNever (take headerColumn marks)))
+    (and-comm (every isNever (take headerColumn marks)) (everyPair cellLawful marks characters))
 
 module _ (characters marks : List ℕ) (at : ℕ) (c : length characters ≤ at) (m : length marks ≤ at) where
   pub fit-last : (large rest : Bool) → (not large && cellsFit (cellsOf (drop at characters) (drop at marks))) ≡ rest → rest ≡ not large
@@ -157,10 +152,10 @@ module _ (characters marks : List ℕ) (at : ℕ) (c : length characters ≤ at)
       sym (sym (and-true (not large))
       ∙ (rw (drop-of-length-le characters c, drop-of-length-le marks m) at e))
 
-  pub sound-last : (unlawful rest : Bool) → (not unlawful && everyPair cellSound (drop at marks) (drop at characters)) ≡ rest → rest ≡ not unlawful
+  pub lawful-last : (wrong rest : Bool) → (not wrong && everyPair cellLawful (drop at marks) (drop at characters)) ≡ rest → rest ≡ not wrong
   unfolding everyPair
-  sound-last unlawful rest e =
-      sym (sym (and-true (not unlawful))
+  lawful-last wrong rest e =
+      sym (sym (and-true (not wrong))
       ∙ (rw (drop-of-length-le characters c, drop-of-length-le marks m) at e))
 
 -- ---- what an answer shows

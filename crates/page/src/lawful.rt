@@ -1,7 +1,8 @@
 // What 24, 22 and 23 ask of a page, each part to be asked alone.
 ghost use mathlib.Core.Path.{_≡_};
-ghost use mathlib.Core.Bool.{not};
+ghost use mathlib.Core.Bool.{cond, not};
 ghost use Prim.Native.Nat.{_≤_};
+ghost use lib.Dec.{ltb};
 ghost use lib.ListN.{length, take};
 ghost use Rattle.laws.specs.Every.{every};
 ghost use Rattle.grid.specs.Grid.{cellCount};
@@ -15,10 +16,8 @@ use crate::SPACE;
 use grid::CELLS;
 use packet::Header;
 
-// The highest lawful mark, and the only other that fits its bits.
+// The highest lawful mark.
 const HIGHEST_MARK: u8 = FRESH;
-
-const UNLAWFUL_MARK: u8 = HIGHEST_MARK + 1;
 
 // The largest character and the largest mark that fit their bits.
 const LARGEST_CHARACTER: u8 = 127;
@@ -62,28 +61,34 @@ fn header_columns_marked(marks: &[u8]) -> bool
     marked
 }
 
-// The check of all cells. It has no branch for a cell, so that many are asked at once. The bits that any of them has are gathered, and whether one is too
-// large is asked of these at the end; of marks that are not, one alone is unlawful.
+fn higher(highest: u8, mark: u8) -> u8
+    ensures { λ r. ⌜ r ≡ cond (ltb highest mark) mark highest ⌝ }
+{
+    if mark > highest { mark } else { highest }
+}
+
+// The check of all cells. It has no branch for a cell, so that many are asked at once. The bits that any character has and the highest mark are
+// gathered, and whether one is too large, or above the lawful marks, is asked of these at the end.
 fn all_checked(characters: &[u8], marks: &[u8]) -> CellsCheck
     requires { ⌜ (length (now characters) ≡ cellCount) × (length (now marks) ≡ cellCount) ⌝ }
     ensures { λ r. ⌜ r ≡ cellsChecked (cellsOf (now (characters .entry)) (now (marks .entry))) ⌝ }
 {
     let mut character_bits: u8 = 0;
-    let mut mark_bits: u8 = 0;
+    let mut highest: u8 = 0;
     let mut unlawful = header_columns_marked(marks);
     let mut at = 0;
     while at < CELLS {
         let character = characters[at];
         let mark = marks[at];
         character_bits = character_bits | character;
-        mark_bits = mark_bits | mark;
-        unlawful = unlawful | (mark == UNLAWFUL_MARK) | ((mark == NEVER) & (character != SPACE));
+        highest = higher(highest, mark);
+        unlawful = unlawful | ((mark == NEVER) & (character != SPACE));
         at += 1;
     }
-    if (character_bits > LARGEST_CHARACTER) | (mark_bits > LARGEST_MARK) {
+    if (character_bits > LARGEST_CHARACTER) | (highest > LARGEST_MARK) {
         return CellsCheck::TooLarge;
     }
-    if unlawful {
+    if unlawful | (highest > HIGHEST_MARK) {
         return CellsCheck::Unlawful;
     }
     CellsCheck::Lawful

@@ -3,7 +3,7 @@ use mathlib.Core.Path.{_≡_, sym, _∙_, ap}
 use Prim.Native.Nat.{_+_}
 use native.Mathlib.Omega.{arith}
 use denote.Ref.{now}
-use Rattle.field.specs.Field.{afterAt, wrongLength, unitAnswer, anyUnitPaper}
+use Rattle.field.specs.Field.{afterAt, headLength, wrongLength, unitAnswer, anyUnitPaper}
 use Rattle.field.proofs.Units.{end-here, short-here, wrong-here, unit-here}
 use borrow.Author.Needs.{needs}
 use Rattle.field.proofs.unit_here.Statement.{statement}
@@ -15,8 +15,14 @@ sub-left c = search needs
 returns : tie.Need-returns
 unfolding unitAnswer anyUnitPaper
 returns c =
-    let a = c .before .before .args in
+    let a = c .before .before .before .args in
     rw (end-here (now (a .field)) (a .place) (omega arith))
+
+returns-2 : tie.Need-returns-2
+unfolding unitAnswer anyUnitPaper
+returns-2 c =
+    let a = c .before .before .before .args in
+    rw (short-here (now (a .field)) (a .place) (omega arith) (omega arith))
 
 shared-slice-read-id : tie.Need-shared-slice-read-id
 shared-slice-read-id c = search needs
@@ -30,9 +36,9 @@ cast-bytes c = search needs
 add-bytes : tie.Need-add-bytes
 add-bytes c = search needs
 
-returns-2 : tie.Need-returns-2
+returns-3 : tie.Need-returns-3
 unfolding unitAnswer anyUnitPaper
-returns-2 c =
+returns-3 c =
     let a = c .before .before .before .before .before .args in
     rw (short-here (now (a .field)) (a .place) (omega arith) (omega (arith, c .before .length-at .ensures)))
 
@@ -42,27 +48,27 @@ shared-slice-read-is-wrong-length c = search needs
 is-wrong-length-requires : tie.Need-is-wrong-length-requires
 is-wrong-length-requires c κs = search needs
 
-returns-3 : tie.Need-returns-3
-unfolding unitAnswer anyUnitPaper
-returns-3 c =
-    let a = c .before .before .before .before .before .before .before .before .args in
-    let size = c .before .before .before .before .length-at .ensures in
-    rw
-    (wrong-here (now (a .field)) (a .place) (omega arith) (omega (arith, size))
-    (ap (wrongLength _ _) (sym size) ∙ (sym (c .before .is-wrong-length .ensures) ∙ c .if3 .taken)))
-
-add-after : tie.Need-add-after
-add-after c = search needs
-
 returns-4 : tie.Need-returns-4
 unfolding unitAnswer anyUnitPaper
 returns-4 c =
     let a = c .before .before .before .before .before .before .before .before .args in
     let size = c .before .before .before .before .length-at .ensures in
-    let after : a .place + (c .before .before .before .before .length-at .result + 2) ≡ afterAt (now (a .field)) (a .place) = omega (arith, size) in
+    rw
+    (wrong-here (now (a .field)) (a .place) (omega arith) (omega (arith, size))
+    (ap (wrongLength _ _) (sym size) ∙ (sym (c .before .is-wrong-length .ensures) ∙ c .if4 .taken)))
+
+add-after : tie.Need-add-after
+add-after c = search needs
+
+returns-5 : tie.Need-returns-5
+unfolding unitAnswer anyUnitPaper
+returns-5 c =
+    let a = c .before .before .before .before .before .before .before .before .args in
+    let size = c .before .before .before .before .length-at .ensures in
+    let after : a .place + (c .before .before .before .before .length-at .result + headLength) ≡ afterAt (now (a .field)) (a .place) = omega (arith, size) in
     rw (
       unit-here (now (a .field)) (a .place) (omega arith) (omega (arith, size))
-          (ap (wrongLength _ _) (sym size) ∙ (sym (c .before .is-wrong-length .ensures) ∙ c .if3 .left)),
+          (ap (wrongLength _ _) (sym size) ∙ (sym (c .before .is-wrong-length .ensures) ∙ c .if4 .left)),
       after,
       size,
     )
@@ -73,13 +79,14 @@ unit-here-spec =
     (tie.spec
     sub-left
     returns
+    returns-2
     shared-slice-read-id
     length-at-requires
     cast-bytes
     add-bytes
-    returns-2
+    returns-3
     shared-slice-read-is-wrong-length
     is-wrong-length-requires
-    returns-3
+    returns-4
     add-after
-    returns-4)
+    returns-5)
