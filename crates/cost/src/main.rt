@@ -1,5 +1,5 @@
 // Does one piece of work so many times, for its instructions to be counted (bench/count): between two counts start-up falls out. Standard input has the work's
-// letter and a part, as a case has them: two bytes with the count, and what the work is done on. What each turn gives is mixed into a byte that is written at the
+// letter and two parts, as a case has them: two bytes with the count, and what the work is done on. What each turn gives is mixed into a byte that is written at the
 // end, so that no turn can be left out.
 ghost use mathlib.Core.Path.{_≡_};
 ghost use Prim.Native.Nat.{_*_};
@@ -46,8 +46,8 @@ fn number_of(answer: Answer) -> u8 {
 
 // A character of what a turn gave, another one at each turn.
 fn character_at(receiver: Receiver, turn: usize) -> u8 {
-    let cells = receiver.cells;
-    cells.characters[turn % CELLS]
+    let characters = receiver.cells.characters;
+    characters[turn % CELLS]
 }
 
 // Lines taken by the entry that has the receiver by value. The receiver of a turn goes on to the next, or every turn starts from the same.
@@ -111,10 +111,10 @@ fn by_recording(
     let mut turn = 0;
     while turn < count {
         let recorded = receiver::take_recording(current, lines, record);
-        let next = recorded.receiver;
-        sum = sum ^ (recorded.used % 256) as u8 ^ character_at(next, turn);
+        let characters = recorded.receiver.cells.characters;
+        sum = sum ^ (recorded.used % 256) as u8 ^ characters[turn % CELLS];
         if carried {
-            current = next;
+            current = recorded.receiver;
         }
         turn += 1;
     }
@@ -268,7 +268,8 @@ fn done(work: u8, input: &[u8], count: usize) -> u8 {
 fn main() {
     let mut room = [0u8; cases::LONGEST];
     let work = cases::next_sort();
-    let count = cases::double(cases::next_part(&mut room)) as usize;
+    let number = cases::next_part(&mut room);
+    let count = cases::double(number) as usize;
     let input = cases::next_part(&mut room);
     cases::put_byte(done(work, input, count));
 }

@@ -21,8 +21,8 @@ take-recording-requires c κs = search needs
 cast-sum : tie.Need-cast-sum Inv-loop μ-loop
 cast-sum c = search needs
 
-character-at-requires : tie.Need-character-at-requires Inv-loop μ-loop
-character-at-requires c κs = search needs
+array-read-sum : tie.Need-array-read-sum Inv-loop μ-loop
+array-read-sum c = search needs
 
 add-turn : tie.Need-add-turn Inv-loop μ-loop
 add-turn c = search needs
@@ -48,7 +48,7 @@ by-recording-spec =
     loop-holds
     take-recording-requires
     cast-sum
-    character-at-requires
+    array-read-sum
     add-turn
     loop-less
     loop-again
