@@ -18,8 +18,11 @@ use grid::ROWS;
 use packet::Header;
 use packet::LINE_LENGTH;
 use page::Cells;
+use page::FRESH;
+use page::OLDER;
 use page::Page;
 use page::RECORD_LENGTH;
+use page::SPACE;
 use printing::PAGE;
 use receiver::Receiver;
 use watch::Watch;
@@ -36,11 +39,6 @@ const LEFT_OUT: usize = 28 + 3 * ROWS + 1;
 
 // The most that is said of a line, which is of a clean page.
 pub const LONGEST: usize = HEADING + CLEAN + LEFT_OUT + PAGE;
-
-// Marks of cells.
-const OLDER: u8 = 1;
-
-const FRESH: u8 = 2;
 
 // After some lines: the receiver, the watch beside it, how many bytes of the lines were used, and how many of the room the text takes.
 pub struct Announced {
@@ -112,7 +110,7 @@ fn one_older(marks: &[u8]) -> bool
 fn sent_now(character: u8, mark: u8) -> u8
     ensures { λ r. ⌜ r ≡ sentNow character mark ⌝ }
 {
-    if mark == FRESH { character } else { b' ' }
+    if mark == FRESH { character } else { SPACE }
 }
 
 // What was sent this time: a space for each cell that is not fresh.
@@ -122,7 +120,7 @@ fn fresh_characters(cells: Cells) -> [u8; CELLS]
 {
     let characters = cells.characters;
     let marks = cells.marks;
-    let mut sent = [b' '; CELLS];
+    let mut sent = [SPACE; CELLS];
     let mut i = 0;
     while i < CELLS {
         sent[i] = sent_now(characters[i], marks[i]);

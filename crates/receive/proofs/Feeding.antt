@@ -1,7 +1,7 @@
 -- What is promised of a room that has room for all lines.
-use mathlib.Core.Path.{_≡_, sym, _∙_, ap, subst}
-use mathlib.Core.List.{List, _++_}
-use Prim.Native.Nat.{ℕ, _-_, _*_, _/_, _%_, _≤_}
+use mathlib.Core.Path.{_≡_, refl, sym, _∙_, ap, subst}
+use mathlib.Core.List.{List, [], _++_}
+use Prim.Native.Nat.{ℕ, _-_, _*_, _/_, _%_, _≤_, _<_}
 use native.Mathlib.Omega.{arith}
 use lib.ListN.{length, take, drop, length-append}
 use lib.Seq.{length-take-le, take-all, take-at, take-take}
@@ -9,9 +9,10 @@ use Rattle.packet.specs.Lines.{lineLength}
 use Rattle.announcing.specs.Said.{Saying, SaysAs, fitting, longest, said}
 use Rattle.announcing.specs.declared.Announced.{Announced}
 use Rattle.announcing.proofs.Walking.{drop-take}
-use Rattle.receive.specs.Feeding.{Feeds, Turned, chunkSize, fedFrom, lastPart, linesAtOnce, wholeLines}
+use Rattle.receive.specs.Feeding.{Comes, Feeds, Turned, chunkSize, fedFrom, lastPart, linesAtOnce, wholeLines}
 use Rattle.receive.specs.declared.Next.{Next}
 use Rattle.receive.specs.declared.State.{State}
+use Rattle.receive.specs.declared.Turn.{Turn}
 
 all-fit : (room lines : List ℕ) → length room ≡ linesAtOnce * longest → length lines ≤ chunkSize → fitting room lines ≡ lines
 unfolding fitting
@@ -64,4 +65,33 @@ module _ (chunk : List ℕ) (full : ℕ) (fits : full ≤ length chunk) where
       record {
         fed = subst (λ (lines : List ℕ). Feeds (said (fedFrom state) lines) after) whole-is feeds;
         carried = carries ∙ part-is;
+      }
+
+-- ---- what came behind a part
+
+module _ (chunk : List ℕ) (part : ℕ) (fits : part ≤ length chunk) (after : List ℕ) (kept : take part after ≡ take part chunk) (state : State) where
+  begins-with : (bytes : List ℕ) → take part bytes ≡ take part chunk → take (length (take part chunk)) bytes ≡ take part chunk
+  begins-with bytes same = ap (λ (n : ℕ). take n bytes) (length-take-le part chunk fits) ∙ same
+
+  pub some-came : (full : ℕ) → part ≤ full → (turn : Turn) (left : List ℕ) → Turned state (take full after) turn left → Comes state (take part chunk) turn left
+  some-came full more turn left turned =
+      record { bytes = take full after; begins = begins-with (take full after) (take-take part full after more ∙ kept); turned = turned }
+
+  nothing-fed : Feeds (said (fedFrom state) []) state
+  unfolding said
+  nothing-fed = record { kept = refl; watched = refl; left = refl }
+
+  pub none-came : part < lineLength → (next : Next) → Comes state (take part chunk) (record { state = state; part = part; next = next }) after
+  unfolding wholeLines lastPart
+  none-came small next =
+      let size = length-take-le part chunk fits in
+      let none : length (take part chunk) / lineLength * lineLength ≡ 0 = omega arith in
+      record {
+        bytes = take part chunk;
+        begins = begins-with (take part chunk) (take-take part part chunk (omega arith));
+        turned =
+            record {
+              fed = subst (λ (n : ℕ). Feeds (said (fedFrom state) (take n (take part chunk))) state) (sym none) nothing-fed;
+              carried = kept ∙ sym (ap (λ (n : ℕ). drop n (take part chunk)) none);
+            };
       }

@@ -37,6 +37,13 @@ pub record Turned (state : State) (bytes : List ℕ) (turn : Turn) (chunk : List
   pub fed : Feeds (said (fedFrom state) (wholeLines bytes)) (turn .state)
   pub carried : take (turn .part) chunk ≡ lastPart bytes
 
+-- what came begins with the part of a line that was there, and is fed and carried over. What came behind the part no contract can say: it may be nothing, where the
+-- input ended or failed
+pub record Comes (state : State) (part : List ℕ) (turn : Turn) (chunk : List ℕ) : Type 0 where
+  pub bytes : List ℕ
+  pub begins : take (length part) bytes ≡ part
+  pub turned : Turned state bytes turn chunk
+
 -- a chunk and a record of their lengths
 abbrev pub Kept : State → List ℕ → Type 0
 Kept state chunk = (length (state .«record») ≡ recordLength) × (length chunk ≡ chunkSize)

@@ -3,10 +3,9 @@
 ghost use mathlib.Core.Path.{_≡_};
 ghost use Prim.Native.Nat.{_+_, _≤_, _<_};
 ghost use lib.ListN.{length, take, drop};
-ghost use Rattle.packet.specs.Lines.{lineLength};
 ghost use Rattle.page.specs.Records.{recordLength};
 ghost use Rattle.announcing.specs.Said.{said};
-ghost use Rattle.receive.specs.Feeding.{Carried, Feeds, Kept, Turned, chunkSize, fedFrom};
+ghost use Rattle.receive.specs.Feeding.{Carried, Comes, Feeds, Kept, Turned, chunkSize, fedFrom};
 use announcing::LONGEST;
 use asking::Asked;
 use console::Got;
@@ -124,11 +123,14 @@ fn feed_whole(state: State, chunk: &mut [u8], full: usize) -> Turn
     }
 }
 
-// Reads some bytes behind the part of a line that is there, and feeds the whole lines.
-fn one_turn(state: State, chunk: &mut [u8], part: usize) -> Turn
-    requires { ⌜ Kept state (now chunk) × (part < lineLength) ⌝ }
+// Reads some bytes behind the part of a line that is there, and feeds the whole lines. Nothing of the part is lost: what is fed and carried begins with it.
+fn one_turn(turn: Turn, chunk: &mut [u8]) -> Turn
+    requires { ⌜ Carried turn (now chunk) ⌝ }
+    ensures { λ r. ⌜ Comes (turn .state) (take (turn .part) (now (chunk .entry))) r (now (chunk .exit)) ⌝ }
     ensures { λ r. ⌜ Carried r (now (chunk .exit)) ⌝ }
 {
+    let state = turn.state;
+    let part = turn.part;
     match console::read_behind(chunk, part) {
         Got::Bytes(more) => feed_whole(state, chunk, part + more),
         Got::End => Turn {
@@ -170,8 +172,7 @@ fn read_lines(state: State, chunk: &mut [u8]) -> Turn
     // More turns than any recording has.
     let mut turns: u64 = 18446744073709551615;
     while turns > 0 {
-        let before = turn.state;
-        let after = one_turn(before, chunk, turn.part);
+        let after = one_turn(turn, chunk);
         turn = after;
         let next = after.next;
         turns = turns_left(turns, next);
@@ -230,7 +231,9 @@ fn complain_at_end(state: State, part: usize, argument: &[u8]) {
     }
     if part > 0 {
         console::complain(b"the last line has ");
-        complain_of(part as u64, b" byte and not 45\n", b" bytes and not 45\n");
+        complain_of(part as u64, b" byte and not ", b" bytes and not ");
+        console::complain_number(LINE_LENGTH as u64);
+        console::complain(b"\n");
     }
     complain_counts(watch);
     if receiver.open {

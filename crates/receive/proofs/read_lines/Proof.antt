@@ -17,7 +17,7 @@ loop-holds : tie.Need-loop-holds Inv-loop μ-loop
 loop-holds c = ((c .before .pre, omega arith), refl)
 
 one-turn-requires : tie.Need-one-turn-requires Inv-loop μ-loop
-one-turn-requires c κs = c .before .before .before .loop .inv .0
+one-turn-requires c κs = c .before .before .loop .inv .0
 
 turns-left-requires : tie.Need-turns-left-requires Inv-loop μ-loop
 turns-left-requires c κs = search needs
@@ -28,7 +28,7 @@ loop-less c = search needs
 loop-again : tie.Need-loop-again Inv-loop μ-loop
 loop-again c =
     let call = c .before .before .before in
-    (call .one-turn .ensures, call .one-turn .kept .1 .0 ∙ call .before .before .before .before .loop .inv .1)
+    (call .one-turn .ensures .1, call .one-turn .kept .1 .0 ∙ call .before .before .before .loop .inv .1)
 
 same-length : tie.Need-same-length Inv-loop μ-loop
 same-length c = c .before .loop .inv .1
