@@ -27,6 +27,7 @@ use Rattle.receiver.specs.declared.looking.Looked.the-variants as looked
 use Rattle.receiver.specs.declared.recording.Ended.{Ended}
 use Rattle.receiver.proofs.Asked.{Looking, asked-stops, done-meets, entry-refused, goes-on-is, handedBack, line-looks, meets, refused-stops}
 use Rattle.receiver.proofs.Carried.{taken-selection}
+use Rattle.receiver.proofs.Closings.{length-stays}
 use Rattle.receiver.proofs.Outcomes.{taken-another}
 use Rattle.receiver.proofs.Playing.{Turning, first-stops, plays-as, turning-on, turning-stops}
 use Rattle.receiver.proofs.Sized.{Sized, taken-sized}
@@ -37,6 +38,11 @@ pub ends-as : {promised : Playing} (standing : Standing) (used : ℕ) (answer : 
     → EndsAs promised (record { standing = standing; used = used; answer = answer }) characters marks lent
 ends-as standing used answer characters marks lent m =
     record { answered = m .answered; counted = m .counted; kept = m .kept; left = m .left }
+
+pub ends-with : {promised : Playing} {ended other : Ended} {characters marks lent : List ℕ} → other ≡ ended
+    → EndsAs promised ended characters marks lent → EndsAs promised other characters marks lent
+ends-with {promised = promised} {characters = characters} {marks = marks} {lent = lent} e m =
+    subst (λ (x : Ended). EndsAs promised x characters marks lent) (sym e) m
 
 module _ {recording record₀ : List ℕ} {receiver : Receiver} {lent : List ℕ} (standing : Standing) (characters marks : List ℕ) {at used : ℕ}
     (t : Turning recording record₀ receiver lent (joined standing characters marks) at used)
@@ -88,9 +94,10 @@ module _ {recording record₀ : List ℕ} {receiver : Receiver} {lent : List ℕ
           (ends-as (done .standing) (used + 1) (Stopped (answerOf done)) nextCharacters nextMarks left
           (turning-stops t more size sized part parted after left stepped (goes closes)))
 
-      pub turn-on : isClosing (done .closing) ≡ false → length left ≡ length lent
+      pub turn-on : isClosing (done .closing) ≡ false
           → Turning recording record₀ receiver left (joined (done .standing) nextCharacters nextMarks) (at + size) (used + 1)
-      turn-on closes keeps = turning-on t more size sized part parted after left stepped (goes closes) keeps
+      turn-on closes =
+          turning-on t more size sized part parted after left stepped (goes closes) (ap length (d .left) ∙ length-stays current packet lent (t .room))
 
       pub turn-sized : Sized (current .cells) → Sized (after .receiver .cells)
       turn-sized sized = subst (λ (r : Receiver). Sized (r .cells)) (sym (d .kept)) (taken-sized current sized packet lent)
@@ -108,7 +115,7 @@ module _ {recording record₀ : List ℕ} {receiver : Receiver} {lent : List ℕ
       turn-on shows known (packetOf line) refl done characters marks lent
       (subst (λ o. Does o done characters marks lent) (sym (taken-another current (packetOf line) lent (sym saw ∙ e)))
       (record { kept = refl; kind = refl; count = refl; word = refl; left = refl }))
-      refl refl
+      refl
 
 -- ---- a recording, whose receiver was taken apart
 

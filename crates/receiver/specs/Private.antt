@@ -22,6 +22,7 @@ use Rattle.receiver.specs.declared.Answer.{Answer}
 use Rattle.receiver.specs.declared.Answer.the-variants as answer
 use Rattle.receiver.specs.declared.Closing.{Closing}
 use Rattle.receiver.specs.declared.Closing.the-variants as closing
+use Rattle.receiver.specs.declared.Played.{Played}
 use Rattle.receiver.specs.declared.Receiver.{Receiver}
 use Rattle.receiver.specs.declared.asking.Asking.{Asking}
 use Rattle.receiver.specs.declared.asking.Asking.the-variants as asked
@@ -138,6 +139,9 @@ pub record Does (outcome : Outcome) (done : Done) (characters marks lent : List 
 -- a line's answer
 abbrev pub answerOf : Done → Answer
 answerOf done = answer.Taken (done .kind) (done .count) (done .closing)
+
+abbrev pub endedAs : Standing → ℕ → Played → Ended
+endedAs standing used answer = record { standing = standing; used = used; answer = answer }
 
 -- what the code of playing gives, where the cells and the lent record are then these
 pub record EndsAs (promised : Playing) (ended : Ended) (characters marks lent : List ℕ) : Type 0 where

@@ -2,7 +2,7 @@
 ghost use mathlib.Core.Path.{_≡_};
 ghost use Prim.Native.Nat.{min};
 ghost use Rattle.packet.specs.Lines.{lineLength};
-ghost use Rattle.receiver.specs.Private.{EndsAs, Ready, isClosing, joined};
+ghost use Rattle.receiver.specs.Private.{EndsAs, Ready, endedAs, isClosing, joined};
 ghost use Rattle.receiver.specs.Recordings.{played};
 use crate::Closing;
 use crate::Played;
@@ -42,6 +42,16 @@ fn stops(closing: Closing) -> bool
     }
 }
 
+fn ends(standing: Standing, used: usize, answer: Played) -> Ended
+    ensures { λ r. ⌜ r ≡ endedAs standing used answer ⌝ }
+{
+    Ended {
+        standing,
+        used,
+        answer,
+    }
+}
+
 // Lines end to end, for a receiver that is known to be lawful and a record that is long enough. A line of another's is passed over at once.
 pub(crate) fn play(
     start: Standing,
@@ -63,13 +73,7 @@ pub(crate) fn play(
         at += size;
         used += 1;
         match look_at_line(ours, line) {
-            Looked::Refused(answer) => {
-                return Ended {
-                    standing,
-                    used,
-                    answer: Played::Stopped(answer),
-                };
-            }
+            Looked::Refused(answer) => return ends(standing, used, Played::Stopped(answer)),
             Looked::Shows(shows) => {
                 if let Seen::Another = shows {
                     continue;
@@ -80,18 +84,10 @@ pub(crate) fn play(
                 standing = next;
                 let closing = done.closing;
                 if stops(closing) {
-                    return Ended {
-                        standing,
-                        used,
-                        answer: Played::Stopped(answer_of(done)),
-                    };
+                    return ends(standing, used, Played::Stopped(answer_of(done)));
                 }
             }
         }
     }
-    Ended {
-        standing,
-        used,
-        answer: Played::End,
-    }
+    ends(standing, used, Played::End)
 }

@@ -6,7 +6,7 @@ use Rattle.receiver.specs.Private.{joined}
 use Rattle.receiver.proofs.Lawful.{our-magazine}
 use Rattle.receiver.proofs.Playing.{Turning, turning-ends, turning-starts}
 use Rattle.receiver.proofs.Sized.{Sized}
-use Rattle.receiver.proofs.Turns.{ends-as, turn-another, turn-on, turn-ours, turn-refused, turn-seen, turn-sized, turn-stops}
+use Rattle.receiver.proofs.Turns.{ends-as, ends-with, turn-another, turn-on, turn-ours, turn-refused, turn-seen, turn-sized, turn-stops}
 use borrow.Author.Needs.{needs}
 use Rattle.receiver.proofs.recording.play.Statement.{statement}
 use Rattle.receiver.proofs.recording.play.Tie as tie
@@ -58,16 +58,28 @@ look-at-line-requires c κs =
 enum-known-answer : tie.Need-enum-known-answer Inv-loop μ-loop
 enum-known-answer c = search needs
 
+ends-requires : tie.Need-ends-requires Inv-loop μ-loop
+ends-requires c κs = search needs
+
 same-length : tie.Need-same-length Inv-loop μ-loop
-same-length c = let same = c .before .before .before .before .before .before .before .loop .inv .0 .same in search needs
+same-length c =
+    let looked = c .before .before .before .before in
+    let line = looked .before in
+    let same = line .before .before .before .loop .inv .0 .same in
+    search needs
 
 returns : tie.Need-returns Inv-loop μ-loop
 returns c =
-    let s = c .before .before .before .before in
-    let turn = s .before .before .before .loop in
-    let more = s .before .before .loop-test .taken in
-    let size = s .before .line-size in
-    turn-refused (turn .standing) (turn .characters) (turn .marks) (turn .inv .0) _ (turn .inv .2) more (size .result) (size .ensures) (turn .at + size .result - turn .at) (omega arith) _ (sym (c .before .before .before .look-at-line .ensures) ∙ c .before .answer .given .1)
+    let known = c .before .before in
+    let looked = known .before .before in
+    let line = looked .before in
+    let turn = line .before .before .before .loop in
+    let more = line .before .before .loop-test .taken in
+    let size = line .before .line-size in
+    let part = turn .at + size .result - turn .at in
+    ends-with (c .ends .ensures)
+    (turn-refused (turn .standing) (turn .characters) (turn .marks) (turn .inv .0) _ (turn .inv .2) more (size .result) (size .ensures) part (omega arith)
+    _ (sym (looked .look-at-line .ensures) ∙ known .answer .given .1))
 
 enum-known-shows : tie.Need-enum-known-shows Inv-loop μ-loop
 enum-known-shows c = search needs
@@ -80,24 +92,35 @@ loop-less c = search needs
 
 loop-again : tie.Need-loop-again Inv-loop μ-loop
 loop-again c =
-    let s = c .before .before .before .before .before .before in
-    let turn = s .before .before .before .loop in
-    let more = s .before .before .loop-test .taken in
-    let size = s .before .line-size in
-    (turn-another (turn .standing) (turn .characters) (turn .marks) (turn .inv .0) _ (turn .inv .2) more (size .result) (size .ensures) (turn .at + size .result - turn .at) (omega arith) _ (sym (c .before .before .before .before .before .look-at-line .ensures) ∙ c .before .before .before .shows .given .1) (c .enum-told .given .1), turn .inv .1, turn .inv .2)
+    let known = c .before .before .before in
+    let looked = known .before .before in
+    let line = looked .before in
+    let turn = line .before .before .before .loop in
+    let more = line .before .before .loop-test .taken in
+    let size = line .before .line-size in
+    let part = turn .at + size .result - turn .at in
+    let another =
+        turn-another (turn .standing) (turn .characters) (turn .marks) (turn .inv .0) _ (turn .inv .2) more (size .result) (size .ensures) part (omega arith)
+        _ (sym (looked .look-at-line .ensures) ∙ known .shows .given .1) (c .enum-told .given .1) in
+    (another, turn .inv .1, turn .inv .2)
 
 packet-of-requires : tie.Need-packet-of-requires Inv-loop μ-loop
 packet-of-requires c κs = search needs
 
 follow-requires : tie.Need-follow-requires Inv-loop μ-loop
 follow-requires c κs =
-    let s = c .before .before .before .before .before .before .before .before .before in
-    let turn = s .before .before .before .loop in
-    let more = s .before .before .loop-test .taken in
-    let size = s .before .line-size in
+    let packets = c .before .before .before in
+    let known = packets .before .before .before in
+    let looked = known .before .before in
+    let line = looked .before in
+    let turn = line .before .before .before .loop in
+    let more = line .before .before .loop-test .taken in
+    let size = line .before .line-size in
+    let part = turn .at + size .result - turn .at in
     let ready = turn .inv in (
       record { right = ready .0 .right; all-characters = ready .1 .0; all-marks = ready .1 .1; room = ready .0 .room },
-      turn-seen (turn .standing) (turn .characters) (turn .marks) (turn .inv .0) _ (turn .inv .2) more (size .result) (size .ensures) (turn .at + size .result - turn .at) (omega arith) _ (sym (c .before .before .before .before .before .before .before .before .look-at-line .ensures) ∙ c .before .before .before .before .before .before .shows .given .1) _ (c .before .before .before .packet-of .ensures),
+      turn-seen (turn .standing) (turn .characters) (turn .marks) (turn .inv .0) _ (turn .inv .2) more (size .result) (size .ensures) part (omega arith)
+          _ (sym (looked .look-at-line .ensures) ∙ known .shows .given .1) _ (packets .packet-of .ensures),
     )
 
 stops-requires : tie.Need-stops-requires Inv-loop μ-loop
@@ -106,48 +129,86 @@ stops-requires c κs = search needs
 answer-of-requires : tie.Need-answer-of-requires Inv-loop μ-loop
 answer-of-requires c κs = search needs
 
+ends-requires-2 : tie.Need-ends-requires-2 Inv-loop μ-loop
+ends-requires-2 c κs = search needs
+
 same-length-2 : tie.Need-same-length-2 Inv-loop μ-loop
-same-length-2 c = let same = c .before .before .before .before .before .before .before .before .before .before .before .before .before .before .before .before .before .before .before .loop .inv .0 .same in search needs
+same-length-2 c =
+    let stopping = c .before .before .before in
+    let following = stopping .before .before .before .before in
+    let packets = following .before .before .before .before in
+    let known = packets .before .before .before in
+    let looked = known .before .before in
+    let line = looked .before in
+    let same = line .before .before .before .loop .inv .0 .same in
+    search needs
 
 returns-2 : tie.Need-returns-2 Inv-loop μ-loop
 returns-2 c =
-    let s = c .before .before .before .before .before .before .before .before .before .before .before .before .before .before .before .before in
-    let turn = s .before .before .before .loop in
-    let more = s .before .before .loop-test .taken in
-    let size = s .before .line-size in
-    let followed = c .before .before .before .before .before .before .follow in
-    turn-stops (turn .standing) (turn .characters) (turn .marks) (turn .inv .0) _ (turn .inv .2) more (size .result) (size .ensures) (turn .at + size .result - turn .at) (omega arith) _ (sym (c .before .before .before .before .before .before .before .before .before .before .before .before .before .before .before .look-at-line .ensures) ∙ c .before .before .before .before .before .before .before .before .before .before .before .before .before .shows .given .1) _ (c .before .before .before .before .before .before .before .before .before .before .packet-of .ensures) (followed .result) _ _ _ (followed .ensures) (sym (c .before .before .stops .ensures) ∙ c .before .if1 .taken) _ (c .answer-of .ensures)
+    let answering = c .before in
+    let stopping = answering .before .before in
+    let following = stopping .before .before .before .before in
+    let packets = following .before .before .before .before in
+    let known = packets .before .before .before in
+    let looked = known .before .before in
+    let line = looked .before in
+    let turn = line .before .before .before .loop in
+    let more = line .before .before .loop-test .taken in
+    let size = line .before .line-size in
+    let part = turn .at + size .result - turn .at in
+    let followed = following .follow in
+    ends-with (c .ends2 .ensures)
+    (turn-stops (turn .standing) (turn .characters) (turn .marks) (turn .inv .0) _ (turn .inv .2) more (size .result) (size .ensures) part (omega arith)
+    _ (sym (looked .look-at-line .ensures) ∙ known .shows .given .1) _ (packets .packet-of .ensures) (followed .result) _ _ _ (followed .ensures)
+    (sym (stopping .stops .ensures) ∙ answering .before .if1 .taken) _ (answering .answer-of .ensures))
 
 loop-less-2 : tie.Need-loop-less-2 Inv-loop μ-loop
 loop-less-2 c =
-    let s = c .before .before .before .before .before .before .before .before .before .before .before .before .before .before .before in
-    let turn = s .before .before .before .loop in
-    let more = s .before .before .loop-test .taken in
-    let size = s .before .line-size in
-    let sized = size .ensures in
+    let stopping = c .before in
+    let following = stopping .before .before .before .before in
+    let packets = following .before .before .before .before in
+    let known = packets .before .before .before in
+    let looked = known .before .before in
+    let line = looked .before in
+    let turn = line .before .before .before .loop in
+    let more = line .before .before .loop-test .taken in
+    let sized = line .before .line-size .ensures in
     omega arith
 
 loop-again-2 : tie.Need-loop-again-2 Inv-loop μ-loop
 loop-again-2 c =
-    let s = c .before .before .before .before .before .before .before .before .before .before .before .before .before .before .before in
-    let turn = s .before .before .before .loop in
-    let more = s .before .before .loop-test .taken in
-    let size = s .before .line-size in
-    let followed = c .before .before .before .before .before .follow in
-    let packet-is = c .before .before .before .before .before .before .before .before .before .packet-of .ensures in
-    let known = (sym (c .before .before .before .before .before .before .before .before .before .before .before .before .before .before .look-at-line .ensures) ∙ c .before .before .before .before .before .before .before .before .before .before .before .before .shows .given .1) in (
-      turn-on (turn .standing) (turn .characters) (turn .marks) (turn .inv .0) _ (turn .inv .2) more (size .result) (size .ensures) (turn .at + size .result - turn .at) (omega arith) _ known _ packet-is (followed .result) _ _ _ (followed .ensures) (sym (c .before .stops .ensures) ∙ c .if1 .left) (search needs),
-      turn-sized (turn .standing) (turn .characters) (turn .marks) (turn .inv .0) _ (turn .inv .2) more (size .result) (size .ensures) (turn .at + size .result - turn .at) (omega arith) _ known _ packet-is (followed .result) _ _ _ (followed .ensures) (turn .inv .1),
-      turn-ours (turn .standing) (turn .characters) (turn .marks) (turn .inv .0) _ (turn .inv .2) more (size .result) (size .ensures) (turn .at + size .result - turn .at) (omega arith) _ known _ packet-is (followed .result) _ _ _ (followed .ensures),
+    let stopping = c .before in
+    let following = stopping .before .before .before .before in
+    let packets = following .before .before .before .before in
+    let known = packets .before .before .before in
+    let looked = known .before .before in
+    let line = looked .before in
+    let turn = line .before .before .before .loop in
+    let more = line .before .before .loop-test .taken in
+    let size = line .before .line-size in
+    let part = turn .at + size .result - turn .at in
+    let followed = following .follow in
+    let shown = sym (looked .look-at-line .ensures) ∙ known .shows .given .1 in
+    let packet-is = packets .packet-of .ensures in (
+      turn-on (turn .standing) (turn .characters) (turn .marks) (turn .inv .0) _ (turn .inv .2) more (size .result) (size .ensures) part (omega arith)
+          _ shown _ packet-is (followed .result) _ _ _ (followed .ensures) (sym (stopping .stops .ensures) ∙ c .if1 .left),
+      turn-sized (turn .standing) (turn .characters) (turn .marks) (turn .inv .0) _ (turn .inv .2) more (size .result) (size .ensures) part (omega arith)
+          _ shown _ packet-is (followed .result) _ _ _ (followed .ensures) (turn .inv .1),
+      turn-ours (turn .standing) (turn .characters) (turn .marks) (turn .inv .0) _ (turn .inv .2) more (size .result) (size .ensures) part (omega arith)
+          _ shown _ packet-is (followed .result) _ _ _ (followed .ensures),
     )
 
+ends-requires-3 : tie.Need-ends-requires-3 Inv-loop μ-loop
+ends-requires-3 c κs = search needs
+
 same-length-3 : tie.Need-same-length-3 Inv-loop μ-loop
-same-length-3 c = let same = c .before .loop .inv .0 .same in search needs
+same-length-3 c = let same = c .before .before .loop .inv .0 .same in search needs
 
 returns-3 : tie.Need-returns-3 Inv-loop μ-loop
 returns-3 c =
-    let turn = c .before .loop in
-    ends-as (turn .standing) (turn .used) _ (turn .characters) (turn .marks) _ (turning-ends (turn .inv .0) (c .loop-test .left))
+    let turn = c .before .before .loop in
+    ends-with (c .ends3 .ensures)
+    (ends-as (turn .standing) (turn .used) _ (turn .characters) (turn .marks) _ (turning-ends (turn .inv .0) (c .before .loop-test .left)))
 
 pub play-spec : {M : Type 1} → statement M
 play-spec =
@@ -166,6 +227,7 @@ play-spec =
     add-used
     look-at-line-requires
     enum-known-answer
+    ends-requires
     same-length
     returns
     enum-known-shows
@@ -176,9 +238,11 @@ play-spec =
     follow-requires
     stops-requires
     answer-of-requires
+    ends-requires-2
     same-length-2
     returns-2
     loop-less-2
     loop-again-2
+    ends-requires-3
     same-length-3
     returns-3)
