@@ -25,7 +25,8 @@ use Rattle.packet.specs.declared.Header.{Header}
 use Rattle.packet.specs.declared.HeaderRead.the-variants.{Good}
 use Rattle.packet.specs.declared.Text.{Text}
 use Rattle.packet.proofs.Bytes.{length-bytes}
-use Rattle.packet.proofs.Sent.{AsSent, Carries, address-shown, column-kept, column-two, delivered, delivered-packet, first-two, header-carries, header-two, received-packet, second-two, sent-packet, text-carries}
+use Rattle.packet.proofs.Sent.{AsSent, Carries, address-shown, column-kept, column-two, delivered, delivered-packet, first-two}
+use Rattle.packet.proofs.Sent.{header-carries, header-two, received-packet, second-two, sent-packet, text-carries}
 use Rattle.packet.proofs.Whole.{whole-text}
 use Rattle.page.specs.Records.{recordLength}
 use Rattle.receiver.specs.Cells.{firstColumn, oneMissing, rowFound}

@@ -32,4 +32,7 @@ take-line-unique 𝓤 H A mem run κs a g r r′ ws ws′ =
 
 pub take-line-through-unique : {M : Type 1} (𝓤 : URA M) (H : Heap 𝓤) (A : Atoms 𝓤) (mem : Memory → SProp 𝓤) (run : Routine → Fun 𝓤) → Unique 𝓤 through.ended (through.clauses 𝓤 H A mem run)
 take-line-through-unique 𝓤 H A mem run κs a g r r′ ws ws′ =
-    both 𝓤 _ _ _ (λ p q. (λ i. record { receiver = (p .kept ∙ sym (q .kept)) i; answer = answer-is (r .answer) (r′ .answer) (p .answered ∙ sym (q .answered)) i }, λ i. (tt, (tt, ((p .left ∙ sym (q .left)) i, tt)))))
+    both 𝓤 _ _ _ (λ p q. (
+      λ i. record { receiver = (p .kept ∙ sym (q .kept)) i; answer = answer-is (r .answer) (r′ .answer) (p .answered ∙ sym (q .answered)) i },
+      λ i. (tt, (tt, ((p .left ∙ sym (q .left)) i, tt))),
+    ))

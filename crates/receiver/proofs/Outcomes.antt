@@ -20,7 +20,8 @@ use Rattle.receiver.specs.declared.kinds.Effect.{Effect}
 use Rattle.receiver.specs.declared.kinds.Effect.the-variants.{Nothing, Store, Open, Close, Doubt}
 use Rattle.receiver.specs.declared.kinds.Seen.{Seen}
 use Rattle.receiver.specs.declared.kinds.Seen.the-variants.{Another, OurRow, OurHeader}
-use Rattle.receiver.proofs.Causes.{Cause, MayBeOurs, OurText, OursZero, another, caused, due-another, due-header, due-row, header-effect, no-header, other-header, page-header, page-row, spoiled-header, unopened-row, unsure-line}
+use Rattle.receiver.proofs.Causes.{Cause, MayBeOurs, OurText, OursZero, caused, due-another, due-header, due-row, header-effect}
+use Rattle.receiver.proofs.Causes.{another, no-header, other-header, page-header, page-row, spoiled-header, unopened-row, unsure-line}
 
 module _ (receiver : Receiver) (packet lent : List ℕ) where
   -- what the effect of a line gives

@@ -54,7 +54,8 @@ returns-2 c =
     let receiver = joined (args .standing) (now (args .characters)) (now (args .marks)) in
     let bytes = textOf (now (args .packet)) .bytes in
     let lent = now (args .«record») in
-    does-by receiver bytes lent (c .before .before .before .before .effect .given .1) _ (text-left receiver (c .before .before .before .before .effect .given .0 .0) bytes _ _ _ _ (c .text-line .ensures))
+    let given = c .before .before .before .before .effect .given in
+    does-by receiver bytes lent (given .1) _ (text-left receiver (given .0 .0) bytes _ _ _ _ (c .text-line .ensures))
 
 same-length : tie.Need-same-length
 same-length c = search needs

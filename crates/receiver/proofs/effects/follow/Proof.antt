@@ -32,7 +32,9 @@ returns c =
     let start = c .before .before .before .before .before .before .before .before .before .before in
     let args = start .args in
     let receiver = joined (args .standing) (now (args .characters)) (now (args .marks)) in
-    let due = c .before .before .before .before .before .before .effect-of .ensures ∙ ap (λ (s : Seen). effectOf (args .standing .selection) (args .standing .«is_open») s (headerOf (now (args .packet)))) (start .pre .1) in
+    let header = headerOf (now (args .packet)) in
+    let effect = c .before .before .before .before .before .before .effect-of .ensures in
+    let due = effect ∙ ap (λ (s : Seen). effectOf (args .standing .selection) (args .standing .«is_open») s header) (start .pre .1) in
     does-by receiver (textOf (now (args .packet)) .bytes) (now (args .«record»)) (sym due) _ (c .before .before .act .ensures)
 
 pub follow-spec : {M : Type 1} → statement M

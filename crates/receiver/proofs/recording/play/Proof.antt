@@ -100,8 +100,8 @@ loop-again c =
     let size = line .before .line-size in
     let part = turn .at + size .result - turn .at in
     let another =
-        turn-another (turn .standing) (turn .characters) (turn .marks) (turn .inv .0) _ (turn .inv .2) more (size .result) (size .ensures) part (omega arith)
-        _ (sym (looked .look-at-line .ensures) ∙ known .shows .given .1) (c .enum-told .given .1) in
+    turn-another (turn .standing) (turn .characters) (turn .marks) (turn .inv .0) _ (turn .inv .2) more (size .result) (size .ensures) part (omega arith)
+    _ (sym (looked .look-at-line .ensures) ∙ known .shows .given .1) (c .enum-told .given .1) in
     (another, turn .inv .1, turn .inv .2)
 
 packet-of-requires : tie.Need-packet-of-requires Inv-loop μ-loop
