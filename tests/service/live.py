@@ -1,5 +1,5 @@
 """Feeds the bundled recording 'earlier' to the built program `receive` by a pipe that stays open, and pauses in the middle of a line and behind a closing line:
-what a closing line says must be written before another byte is sent, and nothing may be lost.
+what a closing line says must be written before another byte is sent, and nothing may be lost. Then a read that fails behind those lines: they are said all the same.
 
 A pause lasts until the program has taken every byte that was sent (FIONREAD says so of the pipe), so that each piece is a read of its own.
 Nothing here rests on how long anything takes: DEADLINE only ends a run in which the program never answers.
@@ -8,6 +8,7 @@ Nothing here rests on how long anything takes: DEADLINE only ends a run in which
 import fcntl
 import os
 import select
+import socket
 import struct
 import subprocess
 import sys
@@ -25,9 +26,9 @@ def read_file(name):
 
 
 class Live:
-    def __init__(self, arguments):
+    def __init__(self, arguments, given=subprocess.PIPE):
         start = os.path.join(HERE, "..", "start")
-        self.program = subprocess.Popen([start, *arguments], stdin=subprocess.PIPE, stdout=subprocess.PIPE, stderr=subprocess.PIPE, bufsize=0)
+        self.program = subprocess.Popen([start, *arguments], stdin=given, stdout=subprocess.PIPE, stderr=subprocess.PIPE, bufsize=0)
         self.said = b""
 
     def unread(self):
@@ -80,3 +81,12 @@ live.send(recording[:7])
 live.program.stdin.close()
 live.program.stdin = None
 live.end(b"the last line has 7 bytes and not 45\n9 lines, 1 refused by 10\n")
+
+# A socket whose other end was closed with a byte unread gives what it holds, and then a read of it fails.
+given, other = socket.socketpair()
+given.send(b"unread")
+other.sendall(recording + recording[:7])
+other.close()
+live = Live(["receive", "100"], given)
+live.expect(text)
+live.end(b"standard input: Connection reset by peer\nthe last line has 7 bytes and not 45\n9 lines, 1 refused by 10\n")

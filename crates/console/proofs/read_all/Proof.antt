@@ -26,7 +26,9 @@ module _ (c : tie.After-known-told Inv-loop μ-loop) where
   turn = c .before .before .before .before .before .before .before
 
   got-some : (0 < c .before .more .given .0 .0) × (turn .before .loop .count + c .before .more .given .0 .0 ≤ length (turn .before .loop .buffer))
-  got-some = some-read (turn .before .loop .count) (turn .before .loop .buffer) (c .before .more .given .1) (c .before .before .before .before .before .read-behind .ensures .within) (turn .loop-test .taken)
+  got-some =
+      let within = c .before .before .before .before .before .read-behind .ensures .within in
+      some-read (turn .before .loop .count) (turn .before .loop .buffer) (c .before .more .given .1) within (turn .loop-test .taken)
 
   same : length (c .before .before .before .before .before .read-behind .last .0) ≡ length (turn .before .loop .buffer)
   same = c .before .before .before .before .before .read-behind .kept .0
