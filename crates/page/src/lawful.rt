@@ -14,6 +14,7 @@ use crate::FRESH;
 use crate::NEVER;
 use crate::SPACE;
 use grid::CELLS;
+use packet::HEADER_COLUMN;
 use packet::Header;
 
 // The highest lawful mark.
@@ -23,9 +24,6 @@ const HIGHEST_MARK: u8 = FRESH;
 const LARGEST_CHARACTER: u8 = 127;
 
 const LARGEST_MARK: u8 = 3;
-
-// Row 0 has no character in the columns before this one.
-const HEADER_COLUMN: usize = 8;
 
 // Whether no part of a header is too large for its bits.
 pub fn header_fits(header: Header) -> bool

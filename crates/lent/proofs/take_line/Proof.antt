@@ -78,7 +78,8 @@ mach h = LL.val T.the-type T′.the-laws h
 abbrev R : RattleType
 R = T.the-row
 
-module _ {M : Type 1} (𝓤 : URA M) (H : Heap 𝓤) (A : Atoms 𝓤) (W : Given 𝓤 H A) (at-mem : Memory → SProp 𝓤) (run : Routine → Fun 𝓤) (κ₀ κ₁ κ₂ : Lft) (q₀ q₁ q₂ : Share) (x : RefT Receiver) (s d : RefT (List ℕ)) where
+module _ {M : Type 1} (𝓤 : URA M) (H : Heap 𝓤) (A : Atoms 𝓤) (W : Given 𝓤 H A) (at-mem : Memory → SProp 𝓤) (run : Routine → Fun 𝓤) (κ₀ κ₁ κ₂ : Lft) (q₀ q₁ q₂ : Share)
+    (x : RefT Receiver) (s d : RefT (List ℕ)) where
   abbrev b : ℕ
   b = x .ptr .0
 
@@ -127,7 +128,8 @@ module _ {M : Type 1} (𝓤 : URA M) (H : Heap 𝓤) (A : Atoms 𝓤) (W : Given
   Promised r zs = entries.Meets (lineEntered h (s .now) (d .now)) r zs
 
   exits : (r : Stepped) (zs : List ℕ) → Promised r zs → length zs ≡ length (d .now) → Is E.the-row (r .answer) (EL.vals E.the-type E′.the-laws (r .answer))
-      → ent 𝓤 (⋆ 𝓤 H A (‵ (fobs (x .name) (R .coded .code (r .receiver))) ∷ ‵ (fbor κ₀ (Body (mem R) b o (x .name))) ∷ ‵ (flft κ₀ q₀) ∷ tokens ∷ ‵ (finally u8 (d .name) zs) ∷ [])) (Post (EL.val E.the-type E′.the-laws (r .answer)))
+      → ent 𝓤 (⋆ 𝓤 H A (‵ (fobs (x .name) (R .coded .code (r .receiver))) ∷ ‵ (fbor κ₀ (Body (mem R) b o (x .name))) ∷ ‵ (flft κ₀ q₀) ∷ tokens ∷ ‵ (finally u8 (d .name) zs) ∷ []))
+      (Post (EL.val E.the-type E′.the-laws (r .answer)))
   exits r zs met l is =
       qed W (‵ (fobs (x .name) (R .coded .code (r .receiver))) ∷ ‵ (fbor κ₀ (Body (mem R) b o (x .name))) ∷ ‵ (flft κ₀ q₀) ∷ tokens ∷ ‵ (finally u8 (d .name) zs) ∷ []) ∵
       suffices ! _ (ends-at 𝓤 H A f.ended stayed (f.clauses 𝓤 H A at-mem run) W y (EL.val E.the-type E′.the-laws (r .answer)) (r .answer) (r .receiver, (tt, (zs, tt))) (tt, (tt, (l, tt)))) $
@@ -137,9 +139,11 @@ module _ {M : Type 1} (𝓤 : URA M) (H : Heap 𝓤) (A : Atoms 𝓤) (W : Given
       owned ! E.the-row (Is E.the-row) (EL.makes E.the-type E′.the-plain 𝓤 H A) (r .answer) _ is $ done !
 
   module _ (C : Calls 𝓤 H) (Λ : Loops 𝓤 H) (fm : FmC 𝓤 H (W .laws) C) (known : Triple 𝓤 (C #g) (G 𝓤 H A at-mem run)) where
-    walk : Is (ShrSlice (named 1) κ₁ u8) s (v₁ ∷ []) → Is (MutSlice (named 2) κ₂ u8) d (v₂ ∷ []) → ent 𝓤 (onEntry 𝓤 H A f.signature (κ₀, (κ₁, (κ₂, tt))) (q₀, (q₁, (q₂, tt))) a vals) (WpFn 𝓤 H C Λ code.function (vptr b o ∷ v₁ ∷ v₂ ∷ []) Post)
+    walk : Is (ShrSlice (named 1) κ₁ u8) s (v₁ ∷ []) → Is (MutSlice (named 2) κ₂ u8) d (v₂ ∷ []) → ent 𝓤 (onEntry 𝓤 H A f.signature (κ₀, (κ₁, (κ₂, tt))) (q₀, (q₁, (q₂, tt))) a vals)
+        (WpFn 𝓤 H C Λ code.function (vptr b o ∷ v₁ ∷ v₂ ∷ []) Post)
     walk p₁ p₂ =
-        qed W ((‵ (flft κ₀ q₀) ⊛ tokens) ∷ ‵ (owns (MutRef (named 0) κ₀ R ∷ ShrSlice (named 1) κ₁ u8 ∷ MutSlice (named 2) κ₂ u8 ∷ []) a vals) ∷ []) ∵ enter ! C Λ code.function (vptr b o ∷ v₁ ∷ v₂ ∷ []) _ $
+        qed W ((‵ (flft κ₀ q₀) ⊛ tokens) ∷ ‵ (owns (MutRef (named 0) κ₀ R ∷ ShrSlice (named 1) κ₁ u8 ∷ MutSlice (named 2) κ₂ u8 ∷ []) a vals) ∷ []) ∵ enter ! C Λ code.function
+        (vptr b o ∷ v₁ ∷ v₂ ∷ []) _ $
         alloc1 ! (λ l₀. alloc1 ! (λ l₁. alloc1 ! (λ l₂. alloc1 ! (λ l₃. alloc1 ! (λ l₄. alloc1 ! (λ l₅. alloc1 ! (λ l₆. alloc1 ! (λ l₇. alloc0 ! $ params1 ! $
         pass1 ! (init ! 12 refl (tt, tt)) $ pass1 ! (init ! 10 refl (shr-slice-lawful 𝓤 H A W (named 1) κ₁ u8 .typed s (v₁ ∷ []) p₁ .0)) $
         pass1 ! (init ! 8 refl (mut-slice-lawful 𝓤 H A W (named 2) κ₂ u8 .typed d (v₂ ∷ []) p₂ .0)) $ pass0 ! $
@@ -150,10 +154,12 @@ module _ {M : Type 1} (𝓤 : URA M) (H : Heap 𝓤) (A : Atoms 𝓤) (W : Given
         -- [what the receiver owns; its cell; the open borrow; obs; auth; the other tokens; the slices; _7 at 7; …; _6; …; _5; …; _4; …; _3; …; _2; …; _1; …; room for _0; …]
         assigns ! (of-opd ! (load ! (from ! (hop ! (look ! 19 refl) (stop !))) (look-raw ! 1 refl))) (from ! (stop !)) (init ! 13 refl (LL.lawful T.the-type T′.the-laws 𝓤 H A W .typed h _ was .0)) $
         assigns ! (addr ! (from ! (fld ! refl (hop ! (look-in ! 15 (sub ! 0 refl (whole !))) (stop !))))) (from ! (stop !)) (init ! 9 refl (tt, tt)) $
-        assigns ! (agg ! (and-then ! (load ! (from ! (stop !)) (look ! 9 refl)) (and-then ! (load ! (from ! (fld ! refl (stop !))) (look-in ! 15 (sub ! 1 refl (whole !)))) (no-more !)))) (from ! (stop !)) (init ! 7 refl (mut-slice-lawful 𝓤 H A W (named 2) κ₂ u8 .typed d (v₂ ∷ []) p₂ .0)) $
+        assigns ! (agg ! (and-then ! (load ! (from ! (stop !)) (look ! 9 refl)) (and-then ! (load ! (from ! (fld ! refl (stop !))) (look-in ! 15 (sub ! 1 refl (whole !))))
+        (no-more !)))) (from ! (stop !)) (init ! 7 refl (mut-slice-lawful 𝓤 H A W (named 2) κ₂ u8 .typed d (v₂ ∷ []) p₂ .0)) $
         -- the call
         move ! (5 ∷ 0 ∷ 6 ∷ []) $ use3 W (raw (G 𝓤 H A at-mem run .pre to)) goes $
-        calls-at ! fm (G 𝓤 H A at-mem run) known to (and-then ! (load ! (from ! (stop !)) (look ! 11 refl)) (and-then ! (load ! (from ! (stop !)) (look ! 15 refl)) (and-then ! (load ! (from ! (stop !)) (look ! 5 refl)) (no-more !)))) (λ w.
+        calls-at ! fm (G 𝓤 H A at-mem run) known to (and-then ! (load ! (from ! (stop !)) (look ! 11 refl))
+        (and-then ! (load ! (from ! (stop !)) (look ! 15 refl)) (and-then ! (load ! (from ! (stop !)) (look ! 5 refl)) (no-more !)))) (λ w.
         use1 W (later (some (λ (r : Stepped). (tokens ⊛ ‵ (S.the-row .own r (w ∷ []))) ⊛ raw (ensured 𝓤 H A g.ended (g.clauses 𝓤 H A at-mem run) (κ₁, (κ₂, tt)) (h, (s, (d, tt))) tt r)))) (id⊢ 𝓤 _) $
         await ! tt $ pick ! (λ r.
         split ! $ move ! (1 ∷ []) $
@@ -166,8 +172,10 @@ module _ {M : Type 1} (𝓤 : URA M) (H : Heap 𝓤) (A : Atoms 𝓤) (W : Given
         land ! (from ! (stop !)) (init ! 12 refl (LL.lawful S.the-type S′.the-laws 𝓤 H A W .typed r _ is .0)) $
         rewrite ! 12 (λ (u : Val). ‵ (fat fullShare S′.mir l₅ 0 u)) (ap only (LL.tells S.the-type S′.the-laws r (w ∷ []) is)) refl $
         let fields = LL.owed S.the-type S′.the-laws r _ is in
-        assigns ! (of-opd ! (load ! (from ! (fld ! refl (stop !))) (look-in ! 12 (sub ! 0 refl (whole !))))) (from ! (hop ! (look ! 20 refl) (stop !))) (store-raw ! 4 refl (LL.lawful T.the-type T′.the-laws 𝓤 H A W .typed (r .receiver) _ (fields .0) .0)) $
-        assigns ! (of-opd ! (load ! (from ! (fld ! refl (stop !))) (look-in ! 12 (sub ! 1 refl (whole !))))) (from ! (stop !)) (init ! 22 refl (EL.lawful E.the-type E′.the-laws 𝓤 H A W tt .typed (r .answer) _ (fields .1 .0) .0)) $
+        assigns ! (of-opd ! (load ! (from ! (fld ! refl (stop !))) (look-in ! 12 (sub ! 0 refl (whole !))))) (from ! (hop ! (look ! 20 refl) (stop !)))
+        (store-raw ! 4 refl (LL.lawful T.the-type T′.the-laws 𝓤 H A W .typed (r .receiver) _ (fields .0) .0)) $
+        assigns ! (of-opd ! (load ! (from ! (fld ! refl (stop !))) (look-in ! 12 (sub ! 1 refl (whole !))))) (from ! (stop !))
+        (init ! 22 refl (EL.lawful E.the-type E′.the-laws 𝓤 H A W tt .typed (r .answer) _ (fields .1 .0) .0)) $
         -- the borrow is closed at the new receiver
         drop ! $ owned ! R (Is R) (LL.makes T.the-type T′.the-plain 𝓤 H A) (r .receiver) _ (fields .0) $ move ! (4 ∷ 0 ∷ 5 ∷ 6 ∷ 7 ∷ []) $ closes ! tt R (r .receiver) (mach (r .receiver) ∷ []) b o $
         -- [obs; the borrow; its token; the other tokens; the last list; …; _7 at 6; …]
@@ -180,12 +188,19 @@ module _ {M : Type 1} (𝓤 : URA M) (H : Heap 𝓤) (A : Atoms 𝓤) (W : Given
   walks : (C : Calls 𝓤 H) (Λ : Loops 𝓤 H) → FmC 𝓤 H (W .laws) C → Triple 𝓤 (C #g) (G 𝓤 H A at-mem run) → Walks 𝓤 H A f.ended stayed (WpFn 𝓤 H C Λ code.function) (f.clauses 𝓤 H A at-mem run)
   walks C Λ fm known = walked 𝓤 H A f.ended stayed (f.clauses 𝓤 H A at-mem run) (WpFn 𝓤 H C Λ code.function)
       (λ κs. (ptr-vals, (slice-vals, (slice-vals, tt)))) (λ κs. (mut-tells (named 0) (κs .0) R, (shr-slice-tells (named 1) (κs .1 .0) u8, (mut-slice-tells (named 2) (κs .1 .1 .0) u8, tt))))
-      (λ κs qs bounds a _ are. via 𝓤 _ (fst∗ 𝓤 _ (emp 𝓤)) (walk 𝓤 H A W at-mem run (κs .0) (κs .1 .0) (κs .1 .1 .0) (qs .0) (qs .1 .0) (qs .1 .1 .0) (a .0) (a .1 .0) (a .1 .1 .0) C Λ fm known (are .1 .0) (are .1 .1 .0)))
+      (λ κs qs bounds a _ are. via 𝓤 _ (fst∗ 𝓤 _ (emp 𝓤)) (walk 𝓤 H A W at-mem run (κs .0) (κs .1 .0) (κs .1 .1 .0) (qs .0) (qs .1 .0) (qs .1 .1 .0) (a .0) (a .1 .0)
+      (a .1 .1 .0) C Λ fm known (are .1 .0) (are .1 .1 .0)))
 
 meets : {M : Type 1} (𝓤 : URA M) (H : Heap 𝓤) (A : Atoms 𝓤) → Given 𝓤 H A → (at-mem : Memory → SProp 𝓤) (run : Routine → Fun 𝓤) (𝓣 : Tables 𝓤 H) → Triple 𝓤 (𝓣 .C #g) (G 𝓤 H A at-mem run)
     → Meets 𝓤 H A f.signature (WpFn 𝓤 H (𝓣 .C) (𝓣 .Λ) code.function) (f.spec 𝓤 H A at-mem run)
 meets 𝓤 H A W at-mem run 𝓣 known =
-    walk-meets 𝓤 H A f.ended stayed W (goes-ref 𝓤 H A W 3 0 tt (plain (λ _. R)), (goes-dropped 𝓤 H A W 3 (shrSliceOf (1 ∷ []) tt bytes) yes (λ κs x f. refl), (goes-gave-slice 𝓤 H A W 3 2 tt bytes, tt))) (f.clauses 𝓤 H A at-mem run)
+    walk-meets 𝓤 H A f.ended stayed W (
+      goes-ref 𝓤 H A W 3 0 tt (plain (λ _. R)),
+      (
+        goes-dropped 𝓤 H A W 3 (shrSliceOf (1 ∷ []) tt bytes) yes (λ κs x f. refl),
+        (goes-gave-slice 𝓤 H A W 3 2 tt bytes, tt),
+      ),
+    ) (f.clauses 𝓤 H A at-mem run)
     (WpFn 𝓤 H (𝓣 .C) (𝓣 .Λ) code.function) (WpFn-mono 𝓤 H (W .laws) 𝓣 code.function) (walks 𝓤 H A W at-mem run (𝓣 .C) (𝓣 .Λ) (fmOf 𝓤 H (W .laws) 𝓣) known)
 
 pub take-line-spec : {M : Type 1} → stated.statement M

@@ -93,7 +93,8 @@ module _ {M : Type 1} (𝓤 : URA M) (H : Heap 𝓤) (A : Atoms 𝓤) (W : Given
   unfolding partOf
   lies-out = id⊢ 𝓤 _
 
-module _ {M : Type 1} (𝓤 : URA M) (H : Heap 𝓤) (A : Atoms 𝓤) (W : Given 𝓤 H A) (at-mem : Memory → SProp 𝓤) (run : Routine → Fun 𝓤) (κ₁ κ₂ : Lft) (q₁ q₂ : Share) (h : Receiver) (s d : RefT (List ℕ)) where
+module _ {M : Type 1} (𝓤 : URA M) (H : Heap 𝓤) (A : Atoms 𝓤) (W : Given 𝓤 H A) (at-mem : Memory → SProp 𝓤) (run : Routine → Fun 𝓤) (κ₁ κ₂ : Lft) (q₁ q₂ : Share) (h : Receiver)
+    (s d : RefT (List ℕ)) where
   abbrev v₁ : Val
   v₁ = sliceVal (s .ptr) (length (s .now))
 
@@ -145,7 +146,8 @@ module _ {M : Type 1} (𝓤 : URA M) (H : Heap 𝓤) (A : Atoms 𝓤) (W : Given
       owned ! S.the-row (Is S.the-row) (LL.makes S.the-type S′.the-plain 𝓤 H A) (together h′ r) _ is $ done !
 
   module _ (C : Calls 𝓤 H) (Λ : Loops 𝓤 H) (fm : FmC 𝓤 H (W .laws) C) (known : Triple 𝓤 (C #g) (G 𝓤 H A at-mem run)) where
-    walk : Is R h (mach h ∷ []) → Is (ShrSlice (named 0) κ₁ u8) s (v₁ ∷ []) → Is (MutSlice (named 1) κ₂ u8) d (v₂ ∷ []) → ent 𝓤 (onEntry 𝓤 H A f.signature (κ₁, (κ₂, tt)) (q₁, (q₂, tt)) a vals) (WpFn 𝓤 H C Λ code.function (mach h ∷ v₁ ∷ v₂ ∷ []) Post)
+    walk : Is R h (mach h ∷ []) → Is (ShrSlice (named 0) κ₁ u8) s (v₁ ∷ []) → Is (MutSlice (named 1) κ₂ u8) d (v₂ ∷ []) → ent 𝓤
+        (onEntry 𝓤 H A f.signature (κ₁, (κ₂, tt)) (q₁, (q₂, tt)) a vals) (WpFn 𝓤 H C Λ code.function (mach h ∷ v₁ ∷ v₂ ∷ []) Post)
     walk p₀ p₁ p₂ =
         qed W (tokens ∷ ‵ (owns (R ∷ ShrSlice (named 0) κ₁ u8 ∷ MutSlice (named 1) κ₂ u8 ∷ []) a vals) ∷ []) ∵ enter ! C Λ code.function (mach h ∷ v₁ ∷ v₂ ∷ []) _ $
         alloc1 ! (λ l₀. alloc1 ! (λ l₁. alloc1 ! (λ l₂. alloc1 ! (λ l₃. alloc1 ! (λ l₄. alloc1 ! (λ l₅. alloc1 ! (λ l₆. alloc1 ! (λ l₇. alloc1 ! (λ l₈. alloc1 ! (λ l₉. alloc0 ! $ params1 ! $
@@ -155,18 +157,23 @@ module _ {M : Type 1} (𝓤 : URA M) (H : Heap 𝓤) (A : Atoms 𝓤) (W : Given
         assigns ! (of-opd ! (load ! (from ! (stop !)) (look ! 16 refl))) (from ! (stop !)) (init ! 10 refl (LL.lawful T.the-type T′.the-laws 𝓤 H A W .typed h _ p₀ .0)) $
         assigns ! (addr ! (from ! (stop !))) (from ! (stop !)) (init ! 6 refl (tt, tt)) $
         assigns ! (addr ! (from ! (fld ! refl (hop ! (look-in ! 12 (sub ! 0 refl (whole !))) (stop !))))) (from ! (stop !)) (init ! 4 refl (tt, tt)) $
-        assigns ! (agg ! (and-then ! (load ! (from ! (stop !)) (look ! 4 refl)) (and-then ! (load ! (from ! (fld ! refl (stop !))) (look-in ! 12 (sub ! 1 refl (whole !)))) (no-more !)))) (from ! (stop !)) (init ! 2 refl (mut-slice-lawful 𝓤 H A W (named 1) κ₂ u8 .typed d (v₂ ∷ []) p₂ .0)) $
+        assigns ! (agg ! (and-then ! (load ! (from ! (stop !)) (look ! 4 refl)) (and-then ! (load ! (from ! (fld ! refl (stop !))) (look-in ! 12 (sub ! 1 refl (whole !))))
+        (no-more !)))) (from ! (stop !)) (init ! 2 refl (mut-slice-lawful 𝓤 H A W (named 1) κ₂ u8 .typed d (v₂ ∷ []) p₂ .0)) $
         -- the local is lent for a lifetime ν of the call
         move ! (10 ∷ []) $ use1 W (‵ (mem R .lies h l₄ 0)) (lies-in 𝓤 H A W l₄ h p₀) $ lft-new ! tt (λ ν. move ! (1 ∷ []) $
-        use1 W (later (some (λ (δ : GName). ‵ (MutRef (named 0) (ν ∷ []) R .own (x l₄ δ) (vptr l₄ 0 ∷ [])) ⊛ ‵ (flent (ν ∷ []) (Body (mem R) l₄ 0 δ))))) (lends-ref 𝓤 H A W R (named 0) (ν ∷ []) h l₄ 0) $
+        use1 W (later (some (λ (δ : GName). ‵ (MutRef (named 0) (ν ∷ []) R .own (x l₄ δ) (vptr l₄ 0 ∷ [])) ⊛ ‵ (flent (ν ∷ []) (Body (mem R) l₄ 0 δ)))))
+        (lends-ref 𝓤 H A W R (named 0) (ν ∷ []) h l₄ 0) $
         await ! tt $ pick ! (λ δ. split ! $
         move ! (23 ∷ []) $ fsplit ! $ drop ! $ move ! (3 ∷ 23 ∷ []) $ join ! $ move ! (2 ∷ 1 ∷ []) $ fjoin ! $ use2 W (raw (G 𝓤 H A at-mem run .pre (to l₄ ν δ))) (goes l₄ ν δ) $
         -- [what the call asks; the lender's part; _9 at 2; …; _8; …; _7; …; _6; …; _5; …; what frees _4; _3 at 13; …; _2; …; _1; …; room for _0; …]
-        calls-at ! fm (G 𝓤 H A at-mem run) known (to l₄ ν δ) (and-then ! (load ! (from ! (stop !)) (look ! 8 refl)) (and-then ! (load ! (from ! (stop !)) (look ! 15 refl)) (and-then ! (load ! (from ! (stop !)) (look ! 4 refl)) (no-more !)))) (λ w.
-        use1 W (later (some (λ (r : Answer). ((‵ (flft (ν ∷ []) fullShare) ⊛ tokens) ⊛ ‵ (E.the-row .own r (w ∷ []))) ⊛ raw (ensured 𝓤 H A g.ended (g.clauses 𝓤 H A at-mem run) (ν ∷ [], (κ₁, (κ₂, tt))) (x l₄ δ, (s, (d, tt))) tt r)))) (id⊢ 𝓤 _) $
+        calls-at ! fm (G 𝓤 H A at-mem run) known (to l₄ ν δ) (and-then ! (load ! (from ! (stop !)) (look ! 8 refl))
+        (and-then ! (load ! (from ! (stop !)) (look ! 15 refl)) (and-then ! (load ! (from ! (stop !)) (look ! 4 refl)) (no-more !)))) (λ w.
+        use1 W (later (some (λ (r : Answer). ((‵ (flft (ν ∷ []) fullShare) ⊛ tokens) ⊛ ‵ (E.the-row .own r (w ∷ []))) ⊛ raw
+        (ensured 𝓤 H A g.ended (g.clauses 𝓤 H A at-mem run) (ν ∷ [], (κ₁, (κ₂, tt))) (x l₄ δ, (s, (d, tt))) tt r)))) (id⊢ 𝓤 _) $
         await ! tt $ pick ! (λ r.
         split ! $ move ! (1 ∷ []) $
-        use1 W (some (λ (zs : Receiver × (Unit {0} × (List ℕ × Unit {0}))). ‵ (lasts g.ended (ν ∷ [], (κ₁, (κ₂, tt))) (x l₄ δ, (s, (d, tt))) zs) ⊛ raw (fact 𝓤 (Said r (zs .0) (zs .1 .1 .0))))) (id⊢ 𝓤 _) $
+        use1 W (some (λ (zs : Receiver × (Unit {0} × (List ℕ × Unit {0}))). ‵ (lasts g.ended (ν ∷ [], (κ₁, (κ₂, tt))) (x l₄ δ, (s, (d, tt))) zs) ⊛ raw
+        (fact 𝓤 (Said r (zs .0) (zs .1 .1 .0))))) (id⊢ 𝓤 _) $
         pick ! (λ zs.
         split ! $ move ! (1 ∷ []) $ heard ! (Said r (zs .0) (zs .1 .1 .0)) (λ e.
         fsplit ! $ move ! (1 ∷ []) $ fsplit ! $ drop ! $ fsplit ! $ fsplit ! $ move ! (1 ∷ []) $ feqL ! (λ l.
@@ -181,9 +188,11 @@ module _ {M : Type 1} (𝓤 : URA M) (H : Heap 𝓤) (A : Atoms 𝓤) (W : Given
         peeks ! R (Is R) (shows 𝓤 H A R) (zs .0) (mach (zs .0) ∷ []) (λ now-is. drop ! $
         use1 W (‵ (fat fullShare T′.mir l₄ 0 (mach (zs .0)))) (W .laws .raw-at fullShare T′.mir l₄ 0 (mach (zs .0))) $
         -- [_4; the tokens; what the answer owns; the last list; …; _9 at 5; …; _8; …; _7; …; _6; …; _5 at 13; …; what frees _4 at 15; _3; …; _2; …; _1; …; room for _0 at 22; …]
-        let made : Is S.the-row (together (zs .0) r) (LL.vals S.the-type S′.the-laws (together (zs .0) r)) = LL.owes S.the-type S′.the-laws (together (zs .0) r) (now-is, (subst (Is E.the-row r) (EL.tells E.the-type E′.the-laws r (w ∷ []) is) is, tt)) in
+        let made : Is S.the-row (together (zs .0) r) (LL.vals S.the-type S′.the-laws (together (zs .0) r)) = LL.owes S.the-type S′.the-laws (together (zs .0) r)
+        (now-is, (subst (Is E.the-row r) (EL.tells E.the-type E′.the-laws r (w ∷ []) is) is, tt)) in
         assigns ! (of-opd ! (load ! (from ! (stop !)) (look ! 0 refl))) (from ! (stop !)) (init ! 5 refl (LL.lawful T.the-type T′.the-laws 𝓤 H A W .typed (zs .0) _ now-is .0)) $
-        assigns ! (agg ! (and-then ! (load ! (from ! (stop !)) (look ! 5 refl)) (and-then ! (load ! (from ! (stop !)) (look ! 13 refl)) (no-more !)))) (from ! (stop !)) (init ! 22 refl (LL.lawful S.the-type S′.the-laws 𝓤 H A W .typed (together (zs .0) r) _ made .0)) $
+        assigns ! (agg ! (and-then ! (load ! (from ! (stop !)) (look ! 5 refl)) (and-then ! (load ! (from ! (stop !)) (look ! 13 refl)) (no-more !)))) (from ! (stop !))
+        (init ! 22 refl (LL.lawful S.the-type S′.the-laws 𝓤 H A W .typed (together (zs .0) r) _ made .0)) $
         returns ! (look ! 22 refl) $ forget ! 0 refl $ forget ! 5 refl $ forget ! 7 refl $ forget ! 9 refl $ forget ! 11 refl $ forget ! 13 refl $ forget ! 16 refl $ forget ! 18 refl $
         forget ! 20 refl $ forget ! 22 refl $
         move ! (22 ∷ 23 ∷ []) $ free1 ! $ move ! (20 ∷ 21 ∷ []) $ free1 ! $ move ! (18 ∷ 19 ∷ []) $ free1 ! $ move ! (16 ∷ 17 ∷ []) $ free1 ! $ move ! (0 ∷ 15 ∷ []) $ free1 ! $
@@ -193,13 +202,20 @@ module _ {M : Type 1} (𝓤 : URA M) (H : Heap 𝓤) (A : Atoms 𝓤) (W : Given
 module _ {M : Type 1} (𝓤 : URA M) (H : Heap 𝓤) (A : Atoms 𝓤) (W : Given 𝓤 H A) (at-mem : Memory → SProp 𝓤) (run : Routine → Fun 𝓤) where
   walks : (C : Calls 𝓤 H) (Λ : Loops 𝓤 H) → FmC 𝓤 H (W .laws) C → Triple 𝓤 (C #g) (G 𝓤 H A at-mem run) → Walks 𝓤 H A f.ended stayed (WpFn 𝓤 H C Λ code.function) (f.clauses 𝓤 H A at-mem run)
   walks C Λ fm known = walked 𝓤 H A f.ended stayed (f.clauses 𝓤 H A at-mem run) (WpFn 𝓤 H C Λ code.function)
-      (λ κs. (LL.vals T.the-type T′.the-laws, (slice-vals, (slice-vals, tt)))) (λ κs. (LL.tells T.the-type T′.the-laws, (shr-slice-tells (named 0) (κs .0) u8, (mut-slice-tells (named 1) (κs .1 .0) u8, tt))))
-      (λ κs qs bounds a _ are. via 𝓤 _ (fst∗ 𝓤 _ (emp 𝓤)) (walk 𝓤 H A W at-mem run (κs .0) (κs .1 .0) (qs .0) (qs .1 .0) (a .0) (a .1 .0) (a .1 .1 .0) C Λ fm known (are .0) (are .1 .0) (are .1 .1 .0)))
+      (λ κs. (LL.vals T.the-type T′.the-laws, (slice-vals, (slice-vals, tt)))) (λ κs. (
+        LL.tells T.the-type T′.the-laws,
+        (shr-slice-tells (named 0) (κs .0) u8, (mut-slice-tells (named 1) (κs .1 .0) u8, tt)),
+      ))
+      (λ κs qs bounds a _ are. via 𝓤 _ (fst∗ 𝓤 _ (emp 𝓤)) (walk 𝓤 H A W at-mem run (κs .0) (κs .1 .0) (qs .0) (qs .1 .0) (a .0) (a .1 .0) (a .1 .1 .0) C Λ fm known (are .0) (are .1 .0)
+      (are .1 .1 .0)))
 
 meets : {M : Type 1} (𝓤 : URA M) (H : Heap 𝓤) (A : Atoms 𝓤) → Given 𝓤 H A → (at-mem : Memory → SProp 𝓤) (run : Routine → Fun 𝓤) (𝓣 : Tables 𝓤 H) → Triple 𝓤 (𝓣 .C #g) (G 𝓤 H A at-mem run)
     → Meets 𝓤 H A f.signature (WpFn 𝓤 H (𝓣 .C) (𝓣 .Λ) code.function) (f.spec 𝓤 H A at-mem run)
 meets 𝓤 H A W at-mem run 𝓣 known =
-    walk-meets 𝓤 H A f.ended stayed W (goes-dropped 𝓤 H A W 2 (plain (λ _. R)) yes (λ κs x f. refl), (goes-dropped 𝓤 H A W 2 (shrSliceOf (0 ∷ []) tt bytes) yes (λ κs x f. refl), (goes-gave-slice 𝓤 H A W 2 1 tt bytes, tt))) (f.clauses 𝓤 H A at-mem run)
+    walk-meets 𝓤 H A f.ended stayed W (
+      goes-dropped 𝓤 H A W 2 (plain (λ _. R)) yes (λ κs x f. refl),
+      (goes-dropped 𝓤 H A W 2 (shrSliceOf (0 ∷ []) tt bytes) yes (λ κs x f. refl), (goes-gave-slice 𝓤 H A W 2 1 tt bytes, tt)),
+    ) (f.clauses 𝓤 H A at-mem run)
     (WpFn 𝓤 H (𝓣 .C) (𝓣 .Λ) code.function) (WpFn-mono 𝓤 H (W .laws) 𝓣 code.function) (walks 𝓤 H A W at-mem run (𝓣 .C) (𝓣 .Λ) (fmOf 𝓤 H (W .laws) 𝓣) known)
 
 pub take-line-through-spec : {M : Type 1} → stated.statement M
