@@ -7,6 +7,7 @@ use native.Mathlib.Omega.{arith}
 use lib.Dec.{lit≤, ltb}
 use lib.ListN.{length, take, drop, length-append}
 use Rattle.grid.specs.Grid.{columns, rows}
+use Rattle.laws.proofs.Keeps.{either}
 use Rattle.page.specs.Reading.{pageRead}
 use Rattle.page.specs.Records.{recordLength}
 use Rattle.page.specs.declared.Page.{Page}
@@ -18,21 +19,20 @@ use Rattle.announcing.specs.Private.{cellsSaid}
 use Rattle.announcing.specs.Said.{headingSize, leftOutSize, longest}
 use Rattle.announcing.specs.Told.{announced, cleanText, digitText, doubtText, freshCharacters, headingText, leftOutText, leftOutWords, missingText, olderRows, oneOlder, pageSaid, rowNumber}
 
-either : (most : ℕ) (test : Bool) (a b : List ℕ) → length a ≤ most → length b ≤ most → length (cond test a b) ≤ most
-either most true a b p q = p
-either most false a b p q = q
+abbrev AtMost : ℕ → List ℕ → Type 0
+AtMost most text = length text ≤ most
 
 -- three bytes for each row
 pub number-length : (row : ℕ) → length (rowNumber row) ≤ 3
 unfolding rowNumber
-number-length row = either 3 (ltb row 10) _ _ (lit≤ tt) (lit≤ tt)
+number-length row = either (AtMost 3) (ltb row 10) _ _ (lit≤ tt) (lit≤ tt)
 
 pub older-length : (count : ℕ) (marks : List ℕ) → length (olderRows count marks) ≤ 3 * count
 unfolding olderRows
 older-length zero marks = omega arith
 older-length (suc row) marks =
     let before = older-length row marks in
-    let this = either 3 (oneOlder (take columns (drop (columns * row) marks))) (rowNumber row) [] (number-length row) (lit≤ tt) in
+    let this = either (AtMost 3) (oneOlder (take columns (drop (columns * row) marks))) (rowNumber row) [] (number-length row) (lit≤ tt) in
     let both = length-append (olderRows row marks) (cond (oneOlder (take columns (drop (columns * row) marks))) (rowNumber row) []) in
     omega arith
 
@@ -42,7 +42,7 @@ left-out-length marks =
     let numbers = older-length rows marks in
     let inner = length-append (olderRows rows marks) lineFeed in
     let whole = length-append leftOutWords (olderRows rows marks ++ lineFeed) in
-    either (leftOutSize) (oneOlder marks) (leftOutWords ++ (olderRows rows marks ++ lineFeed)) [] (omega arith) (omega arith)
+    either (AtMost leftOutSize) (oneOlder marks) (leftOutWords ++ (olderRows rows marks ++ lineFeed)) [] (omega arith) (omega arith)
 
 -- ---- all that is said of a page
 

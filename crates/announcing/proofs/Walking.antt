@@ -2,10 +2,10 @@
 use mathlib.Core.Path.{_≡_, refl, sym, _∙_, ap, ap₂}
 use mathlib.Core.List.{List, [], _∷_, _++_, append-nil}
 use Prim.Native.Nat.{ℕ, zero, suc, _+_, _-_, _*_, _/_, _%_, _≤_, _<_, min}
-use native.Mathlib.Nat.{min-zero, suc-min-suc, zero-min}
 use native.Mathlib.Omega.{arith}
 use lib.ListN.{length, take, drop, length-append, length-drop, length-take}
 use lib.Seq.{drop-drop, drop-nil}
+use Rattle.laws.proofs.Lists.{drop-min, take-min}
 use Rattle.packet.specs.Lines.{lineLength}
 use Rattle.receiver.specs.Recordings.{Playing, PlaysAs, played, playedPaper}
 use Rattle.receiver.specs.declared.Recorded.{Recorded}
@@ -21,16 +21,6 @@ use Rattle.announcing.proofs.Putting.{as-text, put-none, put-then}
 use Rattle.announcing.proofs.Saying.{said-of-none, said-stop, some-used}
 
 -- ---- parts of lines
-
-take-min : (n : ℕ) (xs : List ℕ) → take (min n (length xs)) xs ≡ take n xs
-take-min zero xs = ap (λ (k : ℕ). take k xs) (zero-min (length xs))
-take-min (suc n) [] = ap (λ (k : ℕ). take {A = ℕ} k []) (min-zero (suc n))
-take-min (suc n) (x ∷ xs) = ap (λ (k : ℕ). take k (x ∷ xs)) (suc-min-suc n (length xs)) ∙ ap (λ (r : List ℕ). x ∷ r) (take-min n xs)
-
-drop-min : (n : ℕ) (xs : List ℕ) → drop (min n (length xs)) xs ≡ drop n xs
-drop-min zero xs = ap (λ (k : ℕ). drop k xs) (zero-min (length xs))
-drop-min (suc n) [] = ap (λ (k : ℕ). drop {A = ℕ} k []) (min-zero (suc n))
-drop-min (suc n) (x ∷ xs) = ap (λ (k : ℕ). drop k (x ∷ xs)) (suc-min-suc n (length xs)) ∙ drop-min n xs
 
 pub drop-take : (u n : ℕ) (xs : List ℕ) → drop u (take n xs) ≡ take (n - u) (drop u xs)
 drop-take zero n xs = ap (λ (k : ℕ). take k xs) (let e : n ≡ n - 0 = omega arith in e)

@@ -7,6 +7,7 @@ use native.Mathlib.Omega.{arith}
 use borrow.Author.Tests.{leb-true}
 use lib.Dec.{eqb, leb, ltb, lit<, lit≤}
 use lib.ListN.{replicate}
+use Rattle.laws.proofs.Keeps.{either}
 use Rattle.grid.specs.Grid.{columns}
 use Rattle.display.specs.Display.{blank, start, endsDouble, ownCell, pattern, givesPattern, mosaic, shownControl, shown, cell}
 use Rattle.display.specs.Display.{colour, changesAfter, afterCell, cellAt, next, along, allCodes, isRow, zeroCell, zeroCells, displayed}
@@ -35,10 +36,6 @@ record Kept (state : RowState) : Type 0 where
   held : SmallSymbol (state .held)
   foreground : state .foreground ≤ 7
   background : state .background ≤ 7
-
-either : {A : Type 0} (P : A → Type 0) (test : Bool) (a b : A) → P a → P b → P (cond test a b)
-either P true a b p q = p
-either P false a b p q = q
 
 abbrev Colour : ℕ → Type 0
 Colour n = n ≤ 7

@@ -1,6 +1,6 @@
 -- Tests that passed, as facts.
 use mathlib.Core.Path.{_≡_, refl}
-use mathlib.Core.Bool.{Bool, true, false, not, _&&_, _||_}
+use mathlib.Core.Bool.{Bool, true, false, not, _&&_, _||_, false≢true}
 use lib.Dec.{T}
 
 pub passed : (b : Bool) → T b → b ≡ true
@@ -14,6 +14,10 @@ both-left false b t = t
 pub both-right : (a b : Bool) → T (a && b) → T b
 both-right true b t = t
 both-right false b t = absurd t
+
+pub both-true : (a b : Bool) → (a && b) ≡ true → (a ≡ true) × (b ≡ true)
+both-true true b e = (refl, e)
+both-true false b e = absurd (false≢true e)
 
 -- a test that is asked only where another passes
 pub where-asked : (a b : Bool) → T (not a || b) → T a → T b

@@ -20,6 +20,11 @@ pub failed : (b : Bool) → T (not b) → b ≡ false
 failed true t = absurd t
 failed false t = refl
 
+-- what holds of both of two values holds of the chosen one
+pub either : {A : Type 0} (P : A → Type 0) (test : Bool) (a b : A) → P a → P b → P (cond test a b)
+either P true a b p q = p
+either P false a b p q = q
+
 -- what holds of either of two values, each where it is chosen, holds of the chosen one
 pub chosen : {A : Type 0} (P : A → Type 0) (b : Bool) (x y : A) → (T b → P x) → (T (not b) → P y) → P (cond b x y)
 chosen P true x y f g = f tt

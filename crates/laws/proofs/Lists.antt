@@ -1,8 +1,8 @@
 -- What lists need beyond the kit's library.
-use mathlib.Core.Path.{_≡_, refl, _∙_}
+use mathlib.Core.Path.{_≡_, refl, ap, _∙_}
 use mathlib.Core.List.{List, [], _∷_, map}
-use Prim.Native.Nat.{ℕ, zero, suc, _+_, _<_, _≤_}
-use native.Mathlib.Nat.{le-of-suc-le-suc, not-suc-le-zero}
+use Prim.Native.Nat.{ℕ, zero, suc, _+_, _<_, _≤_, min}
+use native.Mathlib.Nat.{le-of-suc-le-suc, min-zero, not-suc-le-zero, suc-min-suc, zero-min}
 use native.Mathlib.Omega.{arith}
 use borrow.Author.Count.{below-more}
 use lib.ListN.{length, getD, set, take, drop, length-take, length-drop}
@@ -13,6 +13,17 @@ pub getD-map : {A B : Type 0} (f : A → B) (xs : List A) (k : ℕ) (b : B) (a :
 getD-map f [] k b a h = absurd (not-suc-le-zero h)
 getD-map f (x ∷ xs) zero b a h = refl
 getD-map f (x ∷ xs) (suc k) b a h = getD-map f xs k b a (le-of-suc-le-suc h)
+
+-- no more than a list has
+pub take-min : (n : ℕ) (xs : List ℕ) → take (min n (length xs)) xs ≡ take n xs
+take-min zero xs = ap (λ (k : ℕ). take k xs) (zero-min (length xs))
+take-min (suc n) [] = ap (λ (k : ℕ). take {A = ℕ} k []) (min-zero (suc n))
+take-min (suc n) (x ∷ xs) = ap (λ (k : ℕ). take k (x ∷ xs)) (suc-min-suc n (length xs)) ∙ ap (λ (r : List ℕ). x ∷ r) (take-min n xs)
+
+pub drop-min : (n : ℕ) (xs : List ℕ) → drop (min n (length xs)) xs ≡ drop n xs
+drop-min zero xs = ap (λ (k : ℕ). drop k xs) (zero-min (length xs))
+drop-min (suc n) [] = ap (λ (k : ℕ). drop {A = ℕ} k []) (min-zero (suc n))
+drop-min (suc n) (x ∷ xs) = ap (λ (k : ℕ). drop k (x ∷ xs)) (suc-min-suc n (length xs)) ∙ drop-min n xs
 
 -- a part of a list: `count` elements from the place `from` on
 module _ {A : Type 0} (xs : List A) (from count : ℕ) where

@@ -1,6 +1,6 @@
 -- There and back, for records of any number of rows: a page that is written is read back, and a record that is read is written with the same bytes.
 use mathlib.Core.Path.{_≡_, refl, _∙_, ap, subst, sym}
-use mathlib.Core.Bool.{Bool, true, false, cond, _&&_, false≢true}
+use mathlib.Core.Bool.{Bool, true, false, cond, _&&_}
 use mathlib.Core.List.{List, [], _∷_, _++_}
 use Prim.Native.Nat.{ℕ, _+_, _*_, _-_, _≤_, _<_}
 use native.Mathlib.Nat.{zero-lt-suc, mod-lt}
@@ -12,7 +12,7 @@ use Rattle.laws.specs.Below.{allBelow}
 use Rattle.laws.specs.Every.{every}
 use Rattle.laws.specs.Fields.{bitsOf, bytesOf, fieldsBits, fieldsOf, fits}
 use Rattle.laws.proofs.Below.{at, equal-at}
-use Rattle.laws.proofs.Bools.{passed}
+use Rattle.laws.proofs.Bools.{both-true, passed}
 use Rattle.laws.proofs.Fields.{
   AreBytes,
   Fit,
@@ -116,10 +116,6 @@ module _ (page : Page) (taken : pageAnswer page ≡ Written) where
   unfolding pageAnswer
   shown = by-answer (pageFits page) (digitsLawful (page .header)) (cellsLawful (page .cells)) taken
 
-both : (a b : Bool) → (a && b) ≡ true → (a ≡ true) × (b ≡ true)
-both true b e = (refl, e)
-both false b e = absurd (false≢true e)
-
 by-read : (w z d l : Bool)
     → cond w (cond z (cond d (cond l read.Read read.UnlawfulCells) read.BadDigit) read.NotZero) read.WrongLength ≡ read.Read
     → (w ≡ true) × (z ≡ true) × (d ≡ true) × (l ≡ true)
@@ -151,14 +147,14 @@ module _ (n : ℕ) where
     parts : (magazineFits (page .magazine) ≡ true) × (headerFits (page .header) ≡ true) × (cellsFit (page .cells) ≡ true)
     unfolding pageFits
     parts =
-        let one = both (magazineFits (page .magazine)) (headerFits (page .header) && cellsFit (page .cells)) (shown page taken .0) in
-        let two = both (headerFits (page .header)) (cellsFit (page .cells)) (one .1) in
+        let one = both-true (magazineFits (page .magazine)) (headerFits (page .header) && cellsFit (page .cells)) (shown page taken .0) in
+        let two = both-true (headerFits (page .header)) (cellsFit (page .cells)) (one .1) in
         (one .0, two .0, two .1)
 
     magazine-in : (1 ≤ page .magazine) × (page .magazine ≤ 8)
     unfolding magazineFits
     magazine-in =
-        let ends = both (leb 1 (page .magazine)) (leb (page .magazine) 8) (parts .0) in
+        let ends = both-true (leb 1 (page .magazine)) (leb (page .magazine) 8) (parts .0) in
         (leb-true 1 (page .magazine) (ends .0), leb-true (page .magazine) 8 (ends .1))
 
     fit-header : Fit headerWidths (headerValues (page .header))
@@ -176,7 +172,7 @@ module _ (n : ℕ) where
     fit-values : Fit (recordWidthsOf n) (valuesOf page)
     unfolding recordWidthsOf valuesOf cellsFit
     fit-values =
-        let fit = both (every (fits markWidth) (page .cells .marks)) (every (fits characterWidth) (page .cells .characters)) (parts .2) in
+        let fit = both-true (every (fits markWidth) (page .cells .marks)) (every (fits characterWidth) (page .cells .characters)) (parts .2) in
         fit-append headWidths head (cellWidths (n * columns)) cells fit-head
         (fit-cells (n * columns) (page .cells .marks) (page .cells .characters) (whole .1) (whole .0) (subst T (sym (fit .0)) tt) (subst T (sym (fit .1)) tt))
 

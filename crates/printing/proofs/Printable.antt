@@ -6,6 +6,7 @@ use Prim.Native.Nat.{ℕ, _≤_}
 use native.Mathlib.Omega.{arith}
 use borrow.Author.Tests.{leb-true, ltb-false, eqb-false}
 use lib.Dec.{eqb, leb, ltb, lit≤}
+use Rattle.laws.proofs.Keeps.{either}
 use Rattle.display.specs.Display.{
   space,
   blank,
@@ -45,10 +46,6 @@ EachPrintable (byte ∷ bytes) = Printable byte × EachPrintable bytes
 abbrev IsMosaic : Symbol → Type 0
 IsMosaic (Letter code) = ⊥
 IsMosaic (Mosaic bits separated) = Unit {0}
-
-either : {A : Type 0} (P : A → Type 0) (test : Bool) (a b : A) → P a → P b → P (cond test a b)
-either P true a b p q = p
-either P false a b p q = q
 
 pattern-mosaic : (state : RowState) (code : ℕ) → IsMosaic (mosaic state code)
 unfolding mosaic

@@ -1,16 +1,17 @@
 -- Playing a recording, turn by turn: where a turn goes on, where it stops, and the end.
 use mathlib.Core.Path.{_≡_, refl, sym, ap, ap₂, _∙_, subst}
 use mathlib.Core.Bool.{Bool, true, false, cond}
-use mathlib.Core.List.{List, [], _∷_}
+use mathlib.Core.List.{List}
 use mathlib.Core.Option.{some}
 use Prim.Native.Nat.{ℕ, zero, suc, _+_, _-_, _≤_, _<_, min}
-use native.Mathlib.Nat.{zero-min, min-zero, suc-min-suc, sub-zero}
+use native.Mathlib.Nat.{sub-zero}
 use native.Mathlib.Omega.{arith}
 use borrow.Author.Tests.{eq-eqb, ne-eqb}
 use lib.Dec.{T, eqb}
 use lib.ListN.{length, take, drop, length-drop}
 use lib.Seq.{drop-drop}
 use Rattle.laws.proofs.Bools.{passed}
+use Rattle.laws.proofs.Lists.{drop-min, take-min}
 use Rattle.packet.specs.Lines.{framed, lineLength}
 use Rattle.page.specs.Records.{recordLength}
 use Rattle.receiver.specs.Entries.{Entered, Meets, answerPaper, lawful, lineBy, lineEntered}
@@ -23,16 +24,6 @@ use Rattle.receiver.proofs.Asked.{asked-on, meets}
 use Rattle.receiver.proofs.Entering.{line-lawful}
 
 -- ---- a line of a recording, and what follows it
-
-take-min : (n : ℕ) (xs : List ℕ) → take (min n (length xs)) xs ≡ take n xs
-take-min zero xs = ap (λ (k : ℕ). take k xs) (zero-min (length xs))
-take-min (suc n) [] = ap (λ (k : ℕ). take {A = ℕ} k []) (min-zero (suc n))
-take-min (suc n) (x ∷ xs) = ap (λ (k : ℕ). take k (x ∷ xs)) (suc-min-suc n (length xs)) ∙ ap (λ (r : List ℕ). x ∷ r) (take-min n xs)
-
-drop-min : (n : ℕ) (xs : List ℕ) → drop (min n (length xs)) xs ≡ drop n xs
-drop-min zero xs = ap (λ (k : ℕ). drop k xs) (zero-min (length xs))
-drop-min (suc n) [] = ap (λ (k : ℕ). drop {A = ℕ} k []) (min-zero (suc n))
-drop-min (suc n) (x ∷ xs) = ap (λ (k : ℕ). drop k (x ∷ xs)) (suc-min-suc n (length xs)) ∙ drop-min n xs
 
 -- ---- one turn
 

@@ -11,6 +11,7 @@ use borrow.Author.Tests.{eqb-true, le-ltb}
 use lib.Dec.{T, eqb}
 use lib.ListN.{length, getD}
 use Rattle.laws.specs.Paper.{Paper, accepted, refusedBy}
+use Rattle.laws.proofs.Bools.{both-true}
 use Rattle.packet.specs.Lines.{framed, packetLength, packetOf}
 use Rattle.packet.specs.declared.Framed.{Framed}
 use Rattle.packet.specs.declared.Framed.the-variants as framed
@@ -37,14 +38,10 @@ unfolding isAccepted
 accepted-is none e = let z : _≡_ {A = ℕ} 0 1 = cc in absurd (omega arith)
 accepted-is (some n) e = ap {B = Option ℕ} some (eqb-true n 0 e)
 
-and-both : (a b : Bool) → (a && b) ≡ true → (a ≡ true) × (b ≡ true)
-and-both true b e = (refl, e)
-and-both false b e = let z : _≡_ {A = ℕ} 0 1 = cc in absurd (omega arith)
-
 pub on : (answer : Paper) → goesOn answer ≡ true → GoesOn answer
 unfolding goesOn closingOf
 on answer e =
-    let both = and-both (isAccepted (answer .number)) (eqb (getD (answer .values) 2 0) 0) e in
+    let both = both-true (isAccepted (answer .number)) (eqb (getD (answer .values) 2 0) 0) e in
     record { number = accepted-is (answer .number) (both .0); closing = eqb-true (getD (answer .values) 2 0) 0 (both .1) }
 
 and-true : (a : Bool) → (a && true) ≡ a
