@@ -1,8 +1,8 @@
 -- No text is longer than there is room for it.
-use mathlib.Core.Path.{_≡_, sym, _∙_, ap}
-use mathlib.Core.Bool.{Bool, true, false, cond}
-use mathlib.Core.List.{List, [], _∷_, _++_}
-use Prim.Native.Nat.{ℕ, zero, suc, _+_, _*_, _/_, _%_, _≤_}
+use mathlib.Core.Path.{_≡_}
+use mathlib.Core.Bool.{cond}
+use mathlib.Core.List.{List, [], _++_}
+use Prim.Native.Nat.{ℕ, zero, suc, _+_, _*_, _≤_}
 use native.Mathlib.Omega.{arith}
 use lib.Dec.{lit≤, ltb}
 use lib.ListN.{length, take, drop, length-append}
@@ -17,7 +17,7 @@ use Rattle.watch.specs.declared.Word.{Word}
 use Rattle.watch.specs.declared.Word.the-variants as word
 use Rattle.announcing.specs.Private.{cellsSaid}
 use Rattle.announcing.specs.Said.{headingSize, leftOutSize, longest}
-use Rattle.announcing.specs.Told.{announced, cleanText, digitText, doubtText, freshCharacters, headingText, leftOutText, leftOutWords, missingText, olderRows, oneOlder, pageSaid, rowNumber}
+use Rattle.announcing.specs.Told.{announced, cleanText, doubtText, freshCharacters, headingText, leftOutText, leftOutWords, missingText, olderRows, oneOlder, pageSaid, rowNumber}
 
 abbrev AtMost : ℕ → List ℕ → Type 0
 AtMost most text = length text ≤ most

@@ -3,21 +3,18 @@ use mathlib.Core.Path.{_≡_, refl, sym, _∙_, ap, ap₂, subst}
 use mathlib.Core.Bool.{Bool, true, false, cond}
 use mathlib.Core.List.{List, [], _∷_, _++_, append-nil}
 use mathlib.Core.Logic.{_⊎_, inl, inr, ⊎-elim}
-use mathlib.Core.Option.{Option, none, some}
-use Prim.Native.Nat.{ℕ, zero, suc, _+_, _-_, _*_, _≤_, _<_}
+use mathlib.Core.Option.{some}
+use Prim.Native.Nat.{ℕ, zero, suc, _+_, _-_, _*_, _≤_}
 use native.Mathlib.Nat.{sub-zero}
 use native.Mathlib.Omega.{arith}
-use borrow.Author.Tests.{eq-eqb, eqb-false, eqb-true, ne-eqb}
-use lib.Dec.{eqb}
+use borrow.Author.Tests.{eq-eqb, ne-eqb}
 use lib.ListN.{length, take, drop, length-append, length-drop}
 use lib.Seq.{drop-append-le, drop-drop, take-append-le}
-use Rattle.laws.specs.Paper.{Paper}
 use Rattle.packet.specs.Lines.{lineLength}
 use Rattle.receiver.specs.Entries.{Entered, lineEntered}
 use Rattle.receiver.specs.Recordings.{Playing, ended, goesOn, played, playing, stoppedAt}
 use Rattle.receiver.proofs.Playing.{turn, turn-ends}
-use Rattle.watch.specs.Watched.{lineWatched, linesPassed, recordingWatched}
-use Rattle.watch.specs.declared.Watch.{Watch}
+use Rattle.watch.specs.Watched.{linesPassed, recordingWatched}
 use Rattle.watch.specs.declared.Watched.{Watched}
 use Rattle.watch.specs.declared.Word.the-variants as word
 use Rattle.watch.proofs.Watching.{line-on, passed-none, recording-more}

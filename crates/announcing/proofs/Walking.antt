@@ -1,10 +1,10 @@
 -- The walk over some lines, from stop to stop: what holds before each of them.
 use mathlib.Core.Path.{_≡_, refl, sym, _∙_, ap, ap₂}
-use mathlib.Core.List.{List, [], _∷_, _++_, append-nil}
+use mathlib.Core.List.{List, [], _∷_, _++_}
 use Prim.Native.Nat.{ℕ, zero, suc, _+_, _-_, _*_, _/_, _%_, _≤_, _<_, min}
 use native.Mathlib.Omega.{arith}
-use lib.ListN.{length, take, drop, length-append, length-drop, length-take}
-use lib.Seq.{drop-drop, drop-nil}
+use lib.ListN.{length, take, drop, length-drop, length-take}
+use lib.Seq.{drop-drop}
 use Rattle.laws.proofs.Lists.{drop-min, take-min}
 use Rattle.packet.specs.Lines.{lineLength}
 use Rattle.receiver.specs.Recordings.{Playing, PlaysAs, played, playedPaper}
@@ -12,7 +12,7 @@ use Rattle.receiver.specs.declared.Recorded.{Recorded}
 use Rattle.watch.specs.Watched.{recordingWatched}
 use Rattle.watch.specs.declared.Watch.{Watch}
 use Rattle.watch.specs.declared.Watched.{Watched}
-use Rattle.announcing.specs.Private.{Puts, Stops, laidAt, standing, stopSaid}
+use Rattle.announcing.specs.Private.{Puts, Stops, standing, stopSaid}
 use Rattle.announcing.specs.Said.{Saying, SaysAs, fitting, longest, said}
 use Rattle.announcing.specs.Told.{announced}
 use Rattle.announcing.specs.declared.Announced.{Announced}

@@ -1,10 +1,10 @@
 -- What damage does to one byte: a sent Hamming byte with at most one wrong bit, or two, and a sent character byte with an odd number of wrong bits.
-use mathlib.Core.Path.{_≡_, refl, sym, ap, _∙_}
-use mathlib.Core.Logic.{_⊎_, inl, inr}
-use mathlib.Core.Bool.{Bool, true, false, not, _||_}
-use mathlib.Core.Option.{Option, none, some}
-use Prim.Native.Nat.{ℕ, zero, suc, _+_, _*_, _/_, _%_, _^_, _≤_, _<_, min}
-use native.Mathlib.Nat.{mod-lt, zero-lt-suc}
+use mathlib.Core.Path.{_≡_, refl, ap, _∙_}
+use mathlib.Core.Logic.{_⊎_}
+use mathlib.Core.Bool.{not, _||_}
+use mathlib.Core.Option.{none, some}
+use Prim.Native.Nat.{ℕ, zero, suc, _+_, _*_, _/_, _%_, _≤_, _<_, min}
+use native.Mathlib.Nat.{mod-lt}
 use native.Mathlib.Omega.{arith}
 use borrow.Author.Tests.{ne-eqb}
 use lib.Arith.{bin-ind}
@@ -16,7 +16,7 @@ use Rattle.laws.proofs.Below.{at}
 use Rattle.laws.proofs.Bools.{passed, where-asked}
 use Rattle.coding.specs.Bits.{odd, distance}
 use Rattle.coding.specs.Characters.{character}
-use Rattle.coding.specs.Hamming.{sentMessage, testsOf, exact, judged, messageBits, message}
+use Rattle.coding.specs.Hamming.{sentMessage, testsOf, exact, messageBits, message}
 use Rattle.coding.proofs.Hamming.{bits-small, mends, never-another}
 
 -- ---- counts of ones

@@ -14,7 +14,6 @@ use Rattle.laws.proofs.Bools.{passed, both-left, both-right}
 use Rattle.packet.specs.Sent.{damage, linePacket, sentByRules, sentHeader, sentMagazine, sentRow, sentText}
 use Rattle.grid.specs.Grid.{columns, lastRow}
 use Rattle.packet.specs.Texts.{headerColumn, textOf}
-use Rattle.packet.specs.declared.Header.{Header}
 use Rattle.packet.proofs.Sent.{received-packet}
 use Rattle.page.specs.declared.Cells.{Cells}
 use Rattle.page.specs.Lawful.{fresh}

@@ -7,7 +7,6 @@ use Prim.Native.Nat.{ℕ, zero, suc, _≤_, _<_}
 use native.Mathlib.Decide.{decLe, ℕ-discrete}
 use native.Mathlib.Omega.{arith}
 use lib.Dec.{T}
-use lib.ListN.{length}
 use Rattle.laws.proofs.Bools.{passed}
 use Rattle.grid.specs.Grid.{lastRow}
 use Rattle.packet.specs.Addresses.{addressOf}

@@ -9,7 +9,7 @@ use lib.ListN.{length, drop, length-drop}
 use lib.Seq.{drop-drop}
 use Rattle.packet.specs.Lines.{lineLength}
 use Rattle.receiver.specs.Entries.{Entered, lineEntered}
-use Rattle.receiver.specs.Recordings.{Playing, ended, goesOn, played, playing, stoppedAt}
+use Rattle.receiver.specs.Recordings.{Playing, goesOn, played, playing, stoppedAt}
 use Rattle.receiver.proofs.Playing.{entry, turn, turn-ends}
 use Rattle.demands.specs.Recorded.{GoesOn, PlaysTheRun, PlaysToTheEnd, Records, playedFrom}
 use Rattle.demands.specs.Runs.{Run, beforeLine, entering, entryAt}

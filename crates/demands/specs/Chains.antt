@@ -10,7 +10,6 @@ use Rattle.packet.specs.Lines.{framed, packetOf}
 use Rattle.packet.specs.declared.Framed.the-variants.{Packet}
 use Rattle.page.specs.Records.{recordLength}
 use Rattle.receiver.specs.Entries.{Meets, lineEntered, made, packetEntered}
-use Rattle.receiver.specs.declared.Receiver.{Receiver}
 use Rattle.receiver.specs.declared.Stepped.{Stepped}
 use Rattle.demands.specs.Runs.{Between, Run, entryAt, receivedAt}
 

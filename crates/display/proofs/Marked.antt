@@ -14,7 +14,7 @@ pub case-9 : map pattern (0x35 ∷ 0x60 ∷ 0x7F ∷ []) ≡ 21 ∷ 32 ∷ 63 �
 unfolding pattern
 case-9 = refl
 
-abbrev inColour : Cell → Symbol × ℕ
+abbrev pub inColour : Cell → Symbol × ℕ
 inColour cell = (cell .symbol, cell .foreground)
 
 -- 10. Codes 11 7F 1E 12 20: space; 63 red; 63 red; 63 red; 0 green

@@ -7,15 +7,13 @@ use Rattle.display.specs.Display.{space, blank, start, along}
 use Rattle.display.specs.declared.Cell.{Cell}
 use Rattle.display.specs.declared.Symbol.{Symbol}
 use Rattle.display.specs.declared.Symbol.the-variants.{Letter, Mosaic}
+use Rattle.display.proofs.Marked.{inColour}
 
 abbrev symbols : List ℕ → List Symbol
 symbols codes = map (λ (cell : Cell). cell .symbol) (along start codes)
 
 abbrev full : Symbol
 full = Mosaic 63 false
-
-abbrev inColour : Cell → Symbol × ℕ
-inColour cell = (cell .symbol, cell .foreground)
 
 -- the held mosaic keeps its own form and shows in the current foreground: a separated one past 19 (contiguous) and 12 (green)
 pub own-form : map inColour (along start (0x11 ∷ 0x1A ∷ 0x7F ∷ 0x1E ∷ 0x19 ∷ 0x12 ∷ 0x00 ∷ []))

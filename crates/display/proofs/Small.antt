@@ -7,6 +7,7 @@ use native.Mathlib.Omega.{arith}
 use borrow.Author.Tests.{leb-true}
 use lib.Dec.{eqb, leb, ltb, lit<, lit≤}
 use lib.ListN.{replicate}
+use Rattle.laws.proofs.Bools.{both-true}
 use Rattle.laws.proofs.Keeps.{either}
 use Rattle.grid.specs.Grid.{columns}
 use Rattle.display.specs.Display.{blank, start, endsDouble, ownCell, pattern, givesPattern, mosaic, shownControl, shown, cell}
@@ -15,7 +16,7 @@ use Rattle.display.specs.declared.Cell.{Cell}
 use Rattle.display.specs.declared.Symbol.{Symbol}
 use Rattle.display.specs.declared.Symbol.the-variants.{Letter, Mosaic}
 use Rattle.display.specs.declared.state.RowState.{RowState}
-use Rattle.display.proofs.Steps.{along-none, along-cons, codes-cons, cellAt-is, next-is, both-true, row-is}
+use Rattle.display.proofs.Steps.{along-none, along-cons, codes-cons, cellAt-is, next-is, row-is}
 use Rattle.display.proofs.Rows.{shown-row, refused-row}
 
 abbrev pub SmallSymbol : Symbol → Type 0

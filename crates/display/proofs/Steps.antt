@@ -1,6 +1,6 @@
 -- A row code by code: what one more code does to the definitions that go along the whole of it.
 use mathlib.Core.Path.{_≡_, refl, _∙_, sym, ap}
-use mathlib.Core.Bool.{Bool, true, false, not, cond, _&&_, _||_, false≢true}
+use mathlib.Core.Bool.{Bool, true, false, not, cond, _&&_, _||_}
 use mathlib.Core.List.{List, [], _∷_, _++_, append-assoc}
 use Prim.Native.Nat.{ℕ, _+_, _<_, _≤_}
 use native.Mathlib.Numerals.{add-one}
@@ -9,6 +9,7 @@ use borrow.Author.Tests.{eqb-true}
 use lib.Dec.{eqb, leb, ltb}
 use lib.ListN.{length, getD, take, drop, set, take-append-drop}
 use lib.Seq.{drop-cons, take-suc-set, take-append-le, take-take, drop-drop, length-take-le}
+use Rattle.laws.proofs.Bools.{both-true}
 use Rattle.laws.proofs.Opposite.{at-most-is}
 use Rattle.grid.specs.Grid.{columns}
 use Rattle.display.specs.Display.{ownCell, shown, cell, afterCell, cellAt, next, along, allCodes, isRow, zeroCells}
@@ -75,10 +76,6 @@ filled-to i cells rest whole others h w e =
     (take-append-drop i cells)
 
 -- a row has 40 codes, each of 00 to 7F
-pub both-true : (a b : Bool) → a && b ≡ true → (a ≡ true) × (b ≡ true)
-both-true true b e = (refl, e)
-both-true false b e = (e, absurd (false≢true e))
-
 pub row-is : (codes : List ℕ) → isRow codes ≡ true → (length codes ≡ columns) × (allCodes codes ≡ true)
 unfolding isRow
 row-is codes e =

@@ -7,6 +7,8 @@ use mathlib.Core.Option.{some}
 use Prim.Native.Nat.{ℕ, zero, suc, _+_, _<_, _≤_}
 use native.Mathlib.Omega.{arith}
 use lib.ListN.{length, getD}
+use Rattle.laws.proofs.Bools.{both-true}
+use Rattle.laws.proofs.Inverse.{never}
 use Rattle.laws.specs.Paper.{Paper, accepted, refusedBy}
 use Rattle.coding.specs.Bits.{framingPasses}
 use Rattle.field.specs.Field.{idAt, afterAt, teletextId, noField, Here, the-end, a-unit, refused, here}
@@ -14,7 +16,7 @@ use Rattle.field.specs.Field.{Start, startAt, nowhere, asked, start}
 use Rattle.field.specs.Search.{parityAt, offsetAt, offsetPasses, framingAt, packetPlace, goodTeletext}
 use Rattle.field.specs.Search.{Ended, found, noMore, refusedAt, Step, ends, goesOn, stepOf, step, Walk, onward, walk, walkFrom, endedPaper, searchedFrom, searched}
 use Rattle.field.specs.Private.{afterTeletext}
-use Rattle.field.proofs.Units.{never, counts, Begins, begins, begins-at, starts, start-refused, is-end, is-unit, teletext-length}
+use Rattle.field.proofs.Units.{counts, Begins, begins, begins-at, starts, start-refused, is-end, is-unit, teletext-length}
 use Rattle.field.proofs.Walk.{goes-on, further, search-from, answerFrom}
 
 -- ---- what was passed over
@@ -210,13 +212,9 @@ pub record FoundFrom (field : List ℕ) (asked-for packet parity offset after : 
 abbrev pub four : ℕ → ℕ → ℕ → ℕ → Paper
 four packet parity offset after = accepted (packet ∷ parity ∷ offset ∷ after ∷ [])
 
-both-hold : (a b : Bool) → (a && b) ≡ true → a ≡ true
-both-hold true b e = refl
-both-hold false b e = e
-
 teletext-of : (field : List ℕ) (place : ℕ) → goodTeletext field place ≡ true → teletextId (idAt field place) ≡ true
 unfolding goodTeletext
-teletext-of field place e = both-hold _ _ e
+teletext-of field place e = both-true _ _ e .0
 
 module _ (field : List ℕ) (packet parity offset after : ℕ) (known-is : noField field ≡ false) where
   is-found : (last at : ℕ) → Good field last at → endedPaper field (found at) ≡ four packet parity offset after → IsFound field last packet parity offset after

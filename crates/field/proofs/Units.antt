@@ -8,6 +8,8 @@ use native.Mathlib.Omega.{arith}
 use borrow.Author.Tests.{eq-eqb, ne-eqb, lt-ltb, le-ltb, lt-leb, ltb-false, eqb-true, eqb-false, not-false}
 use lib.Dec.{eqb}
 use lib.ListN.{length}
+use Rattle.laws.proofs.Bools.{neither}
+use Rattle.laws.proofs.Inverse.{never}
 use Rattle.laws.specs.Paper.{Paper}
 use Rattle.field.specs.Field.{identifier, low, high, known, noField, pastField, asked, Start, startAt, nowhere, start}
 use Rattle.field.specs.Field.{idAt, lengthAt, afterAt, teletextId, teletextLength, short, wrongLength, the-end, a-unit, refused, here}
@@ -15,18 +17,9 @@ use Rattle.field.specs.Field.{unitAnswer, unitFrom, unitAt, anyUnitPaper
 use Rattle.field.specs.declared.AnyUnit.{AnyUnit}
 use Rattle.field.specs.declared.AnyUnit.the-variants.{Whole, End, NoField, PastField, Short, WrongLength}
 
--- what two cases come to that can't both hold
-pub never : _≡_ {A = ℕ} 0 1 → ⊥
-never e = omega arith
-
 -- equal answers have as many values
 pub counts : {a b : Paper} → a ≡ b → length (a .values) ≡ length (b .values)
 counts e = ap (λ (answer : Paper). length (answer .values)) e
-
--- two tests, of which neither passed
-pub neither : (a b : Bool) → (a || b) ≡ false → (a ≡ false) × (b ≡ false)
-neither true b e = absurd (never (cc))
-neither false b e = (refl, e)
 
 module _ (field : List ℕ) (place : ℕ) where
   pub end-here : place ≡ length field → here field place ≡ the-end

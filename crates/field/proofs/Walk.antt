@@ -5,11 +5,12 @@ use mathlib.Core.List.{List, _∷_}
 use Prim.Native.Nat.{ℕ, zero, suc, _+_, _<_, _≤_}
 use native.Mathlib.Omega.{arith}
 use lib.ListN.{length}
+use Rattle.laws.proofs.Inverse.{never}
 use Rattle.laws.specs.Paper.{Paper}
 use Rattle.field.specs.Field.{afterAt, Here, the-end, a-unit, refused, here, Start, start}
 use Rattle.field.specs.Search.{goodTeletext, Ended, Step, ends, goesOn, stepOf, step, Walk, onward, walk, walkFrom, endedPaper, searchedFrom, searched}
 use Rattle.field.specs.Private.{answered, goOn, stepTold}
-use Rattle.field.proofs.Units.{never, Begins, is-unit}
+use Rattle.field.proofs.Units.{Begins, is-unit}
 
 -- ---- a step that goes on
 

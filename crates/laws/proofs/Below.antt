@@ -1,7 +1,7 @@
 -- From one computed test to the rule at each number, and so at each entry of a table.
 use mathlib.Core.Path.{_≡_, subst, sym}
 use mathlib.Core.Bool.{Bool}
-use Prim.Native.Nat.{ℕ, zero, suc, _<_, _≤_}
+use Prim.Native.Nat.{ℕ, zero, suc, _<_}
 use native.Mathlib.Nat.{not-suc-le-zero}
 use native.Mathlib.Omega.{arith}
 use native.Mathlib.Decide.{ℕ-discrete}

@@ -1,5 +1,5 @@
 -- Tests that passed, as facts.
-use mathlib.Core.Path.{_≡_, refl}
+use mathlib.Core.Path.{_≡_, refl, sym}
 use mathlib.Core.Bool.{Bool, true, false, not, _&&_, _||_, false≢true}
 use lib.Dec.{T}
 
@@ -18,6 +18,11 @@ both-right false b t = absurd t
 pub both-true : (a b : Bool) → (a && b) ≡ true → (a ≡ true) × (b ≡ true)
 both-true true b e = (refl, e)
 both-true false b e = absurd (false≢true e)
+
+-- two tests, of which neither passed
+pub neither : (a b : Bool) → (a || b) ≡ false → (a ≡ false) × (b ≡ false)
+neither true b e = absurd (false≢true (sym e))
+neither false b e = (refl, e)
 
 -- a test that is asked only where another passes
 pub where-asked : (a b : Bool) → T (not a || b) → T a → T b

@@ -3,8 +3,13 @@ use mathlib.Core.Path.{_≡_, refl, _∙_, sym, ap}
 use mathlib.Core.List.{List}
 use mathlib.Core.Option.{Option, none, some}
 use Prim.Native.Nat.{ℕ}
+use native.Mathlib.Omega.{arith}
 use lib.ListN.{getD}
 use Rattle.laws.specs.Paper.{Paper, oneOrNone}
+
+-- what two cases come to that can't both hold
+pub never : _≡_ {A = ℕ} 0 1 → ⊥
+never e = omega arith
 
 pub told-apart : {A B : Type 0} (f : A → B) (back : B → A) → ((a : A) → back (f a) ≡ a) → (a b : A) → f a ≡ f b → a ≡ b
 told-apart f back reads a b e = sym (reads a) ∙ (ap back e ∙ reads b)

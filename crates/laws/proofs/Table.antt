@@ -1,6 +1,6 @@
 -- A table that is its rule worked out, entry by entry: the checker computes the rule over the whole table and compares, and so each entry is what
 -- the rule says. A proof names the rule alone, and never the table's entries again.
-use mathlib.Core.Path.{_≡_, refl, _∙_, ap}
+use mathlib.Core.Path.{_≡_, _∙_, ap}
 use mathlib.Core.List.{List, [], _∷_}
 use Prim.Native.Nat.{ℕ, zero, suc, _+_, _<_}
 use native.Mathlib.Nat.{zero-add, add-zero, add-suc, suc-add, le-of-suc-le-suc, not-suc-le-zero}

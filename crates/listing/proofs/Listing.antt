@@ -10,6 +10,7 @@ use borrow.Author.Tests.{ne-eqb}
 use lib.Dec.{ltb}
 use lib.ListN.{length, take, drop, replicate, length-append}
 use lib.Seq.{take-append-seam, drop-append-seam, drop-drop}
+use Rattle.laws.proofs.Inverse.{never}
 use Rattle.laws.specs.Paper.{Paper, accepted, refusedBy}
 use Rattle.field.specs.Field.{headLength, asked, unitAt, anyUnitPaper}
 use Rattle.field.specs.declared.AnyUnit.{AnyUnit}
@@ -23,9 +24,6 @@ use Rattle.listing.specs.declared.Line.{Line}
 use Rattle.listing.specs.declared.Listed.{Listed}
 use Rattle.listing.specs.declared.Next.{Next}
 use Rattle.listing.proofs.Held.{holds}
-
-never : _≡_ {A = ℕ} 0 1 → ⊥
-never e = omega arith
 
 -- ---- a line that goes on
 

@@ -1,8 +1,7 @@
 -- The bytes of a packet, one by one.
 use mathlib.Core.Path.{_≡_, _∙_, ap, sym}
-use mathlib.Core.List.{List, map}
+use mathlib.Core.List.{List}
 use Prim.Native.Nat.{ℕ, _+_, _-_, _<_, _≤_}
-use native.Mathlib.Omega.{arith}
 use lib.ListN.{length, getD, take, drop, length-map}
 use lib.Seq.{ext-getD}
 use Rattle.laws.proofs.Lists.{getD-map, length-part, getD-part}

@@ -9,7 +9,7 @@ use lib.ListN.{length, getD}
 use Rattle.laws.specs.Paper.{Paper}
 use Rattle.laws.proofs.Inverse.{told-apart}
 use Rattle.packet.specs.Addresses.{addressPaper}
-use Rattle.packet.specs.Headers.{headerPaper, headerValues}
+use Rattle.packet.specs.Headers.{headerPaper}
 use Rattle.packet.specs.Texts.{textPaper}
 use Rattle.packet.specs.declared.Address.{Address}
 use Rattle.packet.specs.declared.Address.the-variants as address

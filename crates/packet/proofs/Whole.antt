@@ -4,7 +4,6 @@ use mathlib.Core.Bool.{Bool, true, false, cond}
 use mathlib.Core.List.{List}
 use mathlib.Core.Option.{Option, none, some}
 use Prim.Native.Nat.{ℕ}
-use native.Mathlib.Omega.{arith}
 use borrow.Author.Tests.{eq-eqb, eqb-true}
 use lib.Dec.{eqb}
 use lib.ListN.{length, getD}
@@ -15,7 +14,6 @@ use Rattle.packet.specs.Lines.{framed, framedPaper, framingPlace, lineLe
 use Rattle.packet.specs.Texts.{columnBytes, textOf}
 use Rattle.packet.specs.declared.Framed.{Framed}
 use Rattle.packet.specs.declared.Framed.the-variants.{Packet, WrongLength, WrongFraming}
-use Rattle.packet.specs.declared.Text.{Text}
 use Rattle.packet.specs.declared.TextRead.the-variants.{Read}
 
 -- ---- lines

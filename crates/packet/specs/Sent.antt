@@ -3,7 +3,7 @@
 -- follows the address in rows 24 to 31.
 use mathlib.Core.Bool.{Bool, true, cond, _&&_, _||_}
 use mathlib.Core.List.{List, map}
-use Prim.Native.Nat.{ℕ, suc, _+_, _%_}
+use Prim.Native.Nat.{ℕ, _%_}
 use lib.Count.{ones}
 use lib.Dec.{eqb, leb, ltb}
 use lib.ListN.{length, getD, take, drop}
@@ -13,7 +13,7 @@ use Rattle.coding.specs.Hamming.{testsOf, exact, messageBits}
 use Rattle.packet.specs.Addresses.{magazineOf, rowOf}
 use Rattle.packet.specs.Headers.{controlBytes, headerFrom}
 use Rattle.packet.specs.Lines.{lineLength, packetLength, packetPlace, framingPlace, packetByte, packetBytes}
-use Rattle.grid.specs.Grid.{columns, lastRow}
+use Rattle.grid.specs.Grid.{lastRow}
 use Rattle.packet.specs.Texts.{columnBytes, headerTextBytes}
 use Rattle.packet.specs.declared.Header.{Header}
 

@@ -22,6 +22,9 @@ pub const LINE_LENGTH: usize = 45;
 
 pub const PACKET_LENGTH: usize = 42;
 
+// C4 in a header's control bits.
+pub const C4_WEIGHT: u16 = 1024;
+
 // The columns 0 to 7 of row 0 have no character.
 pub const HEADER_COLUMN: usize = 8;
 
@@ -43,7 +46,7 @@ pub enum Address {
     WrongLength,
 }
 
-// A page header's numbers, in the order of the page record. `control` holds C4 to C14, C4 its most significant bit (weight 1024), C14 its least.
+// A page header's numbers, in the order of the page record. `control` holds C4 to C14, C4 its most significant bit (`C4_WEIGHT`), C14 its least.
 pub struct Header {
     pub tens: u8,
     pub units: u8,
@@ -200,7 +203,7 @@ fn control_of(minutes_tens_c4: u8, hours_tens_c5_c6: u8, c7_to_c10: u8, c11_to_c
     let c4 = (minutes_tens_c4 / 8 % 2) as u16;
     let c5 = (hours_tens_c5_c6 / 4 % 2) as u16;
     let c6 = (hours_tens_c5_c6 / 8 % 2) as u16;
-    c4 * 1024 + c5 * 512 + c6 * 256 + reversed(c7_to_c10) * 16 + reversed(c11_to_c14)
+    c4 * C4_WEIGHT + c5 * 512 + c6 * 256 + reversed(c7_to_c10) * 16 + reversed(c11_to_c14)
 }
 
 // The header of a row 0's packet: what its row is, is not asked.

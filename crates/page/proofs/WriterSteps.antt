@@ -9,7 +9,7 @@ use Rattle.grid.specs.Grid.{cellCount, rows}
 use Rattle.packing.specs.Cells.{cellBytes}
 use Rattle.page.specs.Private.{cellsLength, cellsStored, headBytes, partsAnswer}
 use Rattle.page.specs.Records.{headLength, recordLength, recordOf}
-use Rattle.page.specs.Writing.{lentAfter, writeAnswer, writePaper, written}
+use Rattle.page.specs.Writing.{bufferAfter, writeAnswer, writePaper, written}
 use Rattle.page.specs.declared.Page.{Page}
 use Rattle.page.specs.declared.WriteAnswer.{WriteAnswer}
 use Rattle.page.proofs.Forms.{length-head, record-split}
@@ -27,9 +27,9 @@ module _ (page : Page) (lent : List ℕ) where
 
   -- an answer, and what it leaves in the buffer
   pub answered : (answer : WriteAnswer) → writeAnswer page lent ≡ answer
-      → (writePaper answer ≡ writePaper (writeAnswer page lent)) × (lentAfter answer page lent ≡ written page lent)
+      → (writePaper answer ≡ writePaper (writeAnswer page lent)) × (bufferAfter answer page lent ≡ written page lent)
   unfolding written
-  answered answer e = (ap writePaper (sym e), ap (λ (a : WriteAnswer). lentAfter a page lent) (sym e))
+  answered answer e = (ap writePaper (sym e), ap (λ (a : WriteAnswer). bufferAfter a page lent) (sym e))
 
   -- the steps of storing: the head, and then the cells
   pub record-stored : (head first last : List ℕ) → head ≡ headBytes (page .magazine) (page .header) (page .clean)

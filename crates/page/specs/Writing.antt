@@ -33,14 +33,14 @@ writePaper BadDigit = refusedBy 22 []
 writePaper UnlawfulCells = refusedBy 23 []
 
 -- the lent buffer after each answer
-unfoldable pub lentAfter : WriteAnswer → Page → List ℕ → List ℕ
+unfoldable pub bufferAfter : WriteAnswer → Page → List ℕ → List ℕ
 unfolding recordOf
-lentAfter Written page lent = recordOf page ++ drop recordLength lent
-lentAfter ShortRecord page lent = lent
-lentAfter TooLarge page lent = lent
-lentAfter BadDigit page lent = lent
-lentAfter UnlawfulCells page lent = lent
+bufferAfter Written page lent = recordOf page ++ drop recordLength lent
+bufferAfter ShortRecord page lent = lent
+bufferAfter TooLarge page lent = lent
+bufferAfter BadDigit page lent = lent
+bufferAfter UnlawfulCells page lent = lent
 
 unfoldable pub written : Page → List ℕ → List ℕ
-unfolding lentAfter writeAnswer
-written page lent = lentAfter (writeAnswer page lent) page lent
+unfolding bufferAfter writeAnswer
+written page lent = bufferAfter (writeAnswer page lent) page lent

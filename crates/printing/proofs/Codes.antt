@@ -3,12 +3,13 @@ use mathlib.Core.Path.{_≡_, refl, sym, _∙_, ap}
 use mathlib.Core.Bool.{Bool, true, false, _&&_}
 use mathlib.Core.List.{List, [], _∷_}
 use mathlib.Core.Option.{Option, none, some}
-use Prim.Native.Nat.{ℕ, zero, suc, _+_, _*_, _<_, _≤_}
+use Prim.Native.Nat.{ℕ, zero, suc, _+_, _*_, _<_}
 use native.Mathlib.Omega.{arith}
 use borrow.Author.Tests.{eq-eqb, ne-eqb, eqb-true}
 use lib.Dec.{eqb, leb}
 use lib.ListN.{length, take, drop, replicate, drop-of-length-le, length-replicate}
 use lib.Seq.{drop-drop}
+use Rattle.laws.proofs.Bools.{both-true}
 use Rattle.laws.specs.Paper.{accepted, refusedBy}
 use Rattle.laws.proofs.Lists.{length-part}
 use Rattle.grid.specs.Grid.{cellCount, columns, rows}
@@ -16,7 +17,7 @@ use Rattle.display.specs.Display.{allCodes, displayed, isRow, rowAnswerPaper}
 use Rattle.display.specs.declared.RowAnswer.{RowAnswer}
 use Rattle.display.specs.declared.RowAnswer.the-variants.{Refused, Shown}
 use Rattle.display.proofs.Rows.{refused-row, shown-row}
-use Rattle.display.proofs.Steps.{both-true, codes-cons, codes-none}
+use Rattle.display.proofs.Steps.{codes-cons, codes-none}
 use Rattle.printing.specs.Pages.{isPage, pagePaper, pageSize, pageText, printedPage}
 use Rattle.printing.specs.Printed.{Printed, printed, printedPaper}
 use Rattle.printing.specs.declared.PrintedPage.{PrintedPage}

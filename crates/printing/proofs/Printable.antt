@@ -6,6 +6,7 @@ use Prim.Native.Nat.{ℕ, _≤_}
 use native.Mathlib.Omega.{arith}
 use borrow.Author.Tests.{leb-true, ltb-false, eqb-false}
 use lib.Dec.{eqb, leb, ltb, lit≤}
+use Rattle.laws.proofs.Bools.{both-true}
 use Rattle.laws.proofs.Keeps.{either}
 use Rattle.display.specs.Display.{
   space,
@@ -30,7 +31,7 @@ use Rattle.display.specs.declared.Symbol.{Symbol}
 use Rattle.display.specs.declared.Symbol.the-variants.{Letter, Mosaic}
 use Rattle.display.specs.declared.Cell.{Cell}
 use Rattle.display.specs.declared.state.RowState.{RowState}
-use Rattle.display.proofs.Steps.{along-none, along-cons, codes-cons, cellAt-is, next-is, both-true, row-is}
+use Rattle.display.proofs.Steps.{along-none, along-cons, codes-cons, cellAt-is, next-is, row-is}
 use Rattle.display.proofs.Rows.{shown-row}
 use Rattle.printing.specs.Printed.{unprinted, symbolByte, cellByte, printed}
 

@@ -1,25 +1,24 @@
 -- The codes of a page that is read from a record, or of the zeros beside a refused one: always 960 of 00 to 7F, so that no page of a record is refused by 25, and
 -- every byte that is printed for it can be printed.
-use mathlib.Core.Path.{_≡_, refl, sym, _∙_, ap, subst}
+use mathlib.Core.Path.{_≡_, refl}
 use mathlib.Core.Bool.{Bool, true, false, cond, _&&_}
 use mathlib.Core.List.{List, [], _∷_}
-use Prim.Native.Nat.{ℕ, _*_, _<_, _^_}
+use Prim.Native.Nat.{ℕ, _<_, _^_}
 use native.Mathlib.Omega.{arith}
 use borrow.Author.Tests.{eq-eqb, le-leb, ltb-true}
 use lib.Dec.{T, ltb}
-use lib.ListN.{length, length-replicate, replicate}
+use lib.ListN.{length, length-replicate}
 use Rattle.laws.specs.Every.{every}
 use Rattle.laws.specs.Fields.{fits}
-use Rattle.laws.proofs.Bools.{passed}
+use Rattle.laws.proofs.Bools.{both-true, passed}
 use Rattle.laws.proofs.Keeps.{every-replicate}
 use Rattle.grid.specs.Grid.{cellCount, rows}
-use Rattle.display.specs.Display.{allCodes, isRow}
-use Rattle.display.proofs.Steps.{both-true, codes-cons, codes-none}
+use Rattle.display.specs.Display.{allCodes}
+use Rattle.display.proofs.Steps.{codes-cons, codes-none}
 use Rattle.page.specs.Lawful.{cellsFit, cellsLawful, digitsLawful, headerFits, magazineFits, pageFits}
 use Rattle.page.specs.Records.{characterWidth, markWidth}
 use Rattle.page.specs.Reading.{pageBeside, pageIn, pageRead, readAnswer, zeroPage}
 use Rattle.page.specs.Writing.{pageAnswer}
-use Rattle.page.specs.declared.Cells.{Cells}
 use Rattle.page.specs.declared.Page.{Page}
 use Rattle.page.specs.declared.ReadAnswer.{ReadAnswer}
 use Rattle.page.specs.declared.ReadAnswer.the-variants as read

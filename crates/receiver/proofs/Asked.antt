@@ -2,14 +2,12 @@
 use mathlib.Core.Path.{_≡_, refl, sym, ap, ap₂, _∙_, subst}
 use mathlib.Core.Bool.{Bool, true, false, cond, not, _&&_, and-assoc}
 use mathlib.Core.List.{List}
-use mathlib.Core.Option.{Option, none, some}
 use Prim.Native.Nat.{ℕ, _≤_}
 use native.Mathlib.Omega.{arith}
 use borrow.Author.Tests.{eq-eqb, eqb-true, le-ltb, ltb-false}
 use lib.Dec.{eqb, ltb}
 use lib.ListN.{length}
-use Rattle.laws.specs.Paper.{Paper, accepted}
-use Rattle.laws.proofs.Inverse.{told-apart}
+use Rattle.laws.specs.Paper.{accepted}
 use Rattle.packet.specs.Addresses.{addressOf}
 use Rattle.packet.specs.Lines.{framed, packetLength, packetOf}
 use Rattle.packet.specs.declared.Framed.{Framed}
@@ -19,6 +17,7 @@ use Rattle.page.specs.Records.{recordLength}
 use Rattle.page.specs.declared.Cells.{Cells}
 use Rattle.page.specs.declared.CellsCheck.{CellsCheck}
 use Rattle.page.specs.declared.CellsCheck.the-variants.{Lawful, TooLarge, Unlawful}
+use Rattle.page.proofs.Papers.{check-is}
 use Rattle.receiver.specs.Effects.{Outcome, taken}
 use Rattle.receiver.specs.Entries.{Entered, Meets, answerPaper, asked, entered, lawful, lineBy, lineValues, packetTaken, refusal, stateLawful}
 use Rattle.receiver.specs.Kinds.{seen}
@@ -34,22 +33,11 @@ use Rattle.receiver.specs.declared.Stepped.{Stepped}
 use Rattle.receiver.specs.declared.asking.Asking.{Asking}
 use Rattle.receiver.specs.declared.asking.Asking.the-variants as asking
 use Rattle.receiver.specs.declared.effects.Done.{Done}
-use Rattle.receiver.specs.declared.kinds.Seen.{Seen}
 use Rattle.receiver.specs.declared.looking.Looked.{Looked}
 use Rattle.receiver.specs.declared.looking.Looked.the-variants as looked
 use Rattle.receiver.proofs.Entering.{length-packet}
 
 -- ---- the cells that 18 asks
-
-abbrev byNumber : Option ℕ → CellsCheck
-byNumber none = TooLarge
-byNumber (some n) = cond (eqb n 0) Lawful (cond (eqb n 24) TooLarge Unlawful)
-
-check-back : (check : CellsCheck) → byNumber (cellsPaper check .number) ≡ check
-unfolding cellsPaper
-check-back Lawful = refl
-check-back TooLarge = refl
-check-back Unlawful = refl
 
 -- what each answer says of the two tests
 abbrev says : CellsCheck → Bool
@@ -66,7 +54,7 @@ pub asked-cells : (cells : Cells) (answer known : CellsCheck) → cellsPaper ans
     → says known ≡ bothLawful cells
 unfolding bothLawful cellsChecked
 asked-cells cells answer known e k =
-    let told = told-apart cellsPaper (λ (p : Paper). byNumber (p .number)) check-back answer (cellsChecked cells) e in
+    let told = check-is answer (cellsChecked cells) e in
     let same : cellsChecked cells ≡ known = sym told ∙ k in
     sym (by-tests (cellsFit cells) (cellsLawful cells) ∙ ap says same)
 

@@ -1,12 +1,13 @@
 -- What a line carries over: the selection always; the cells unless a row is stored or a page opened. And a page that is open and without doubt after a
 -- line was opened by it, or was so before it and the line did no harm.
 use mathlib.Core.Path.{_≡_, refl}
-use mathlib.Core.Bool.{Bool, true, false, _||_}
+use mathlib.Core.Bool.{Bool, true, false}
 use mathlib.Core.List.{List}
 use mathlib.Core.Logic.{_⊎_, inl, inr}
 use Prim.Native.Nat.{ℕ}
 use native.Mathlib.Omega.{arith}
 use lib.ListN.{length}
+use Rattle.laws.proofs.Bools.{neither}
 use Rattle.laws.proofs.Keeps.{chosen, failed}
 use Rattle.packet.specs.Addresses.{addressOf}
 use Rattle.packet.specs.Lines.{packetLength}
@@ -78,10 +79,6 @@ pub record Passed (receiver : Receiver) (packet lent : List ℕ) (outcome : Outc
   pub anothers : Anothers (receiver .selection .magazine) (addressOf packet)
   pub gives : outcome ≡ unclosed receiver 0 lent
 
-or-false : (a b : Bool) → a || b ≡ false → (a ≡ false) × (b ≡ false)
-or-false true b e = (e, cc)
-or-false false b e = (refl, e)
-
 not-both : {b : Bool} → b ≡ true → b ≡ false → ⊥
 not-both p q = let z : _≡_ {A = ℕ} 0 1 = cc in omega arith
 
@@ -102,7 +99,7 @@ module _ (receiver : Receiver) (packet lent : List ℕ) (whole : length packet �
   goes-by e (unopened-row row t o) = λ g. absurd (not-both (g .0) o)
   goes-by e (no-header a r) = λ g. absurd (header-not-short packet whole r)
   goes-by e (page-row row t o) = λ g.
-      let d = or-false (receiver .doubt) (oneMissing (rowFound row (textOf packet .bytes))) (g .1) in
+      let d = neither (receiver .doubt) (oneMissing (rowFound row (textOf packet .bytes))) (g .1) in
       inr ((g .0, d .0), inr (record { stores = record { row = row; ours = t; was-open = o; gives = refl }; none-missing = d .1 }))
   goes-by e (page-header found a r m) = λ g. inl refl
   goes-by e (other-header found a r m) = λ g. absurd (not-both (g .0) (closed-open receiver))

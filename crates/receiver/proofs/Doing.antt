@@ -2,20 +2,18 @@
 use mathlib.Core.Path.{_≡_, refl, sym, ap, ap₂, _∙_, subst}
 use mathlib.Core.Bool.{Bool, true, false, cond, _||_}
 use mathlib.Core.List.{List, []}
-use Prim.Native.Nat.{ℕ, _-_, _≤_}
+use Prim.Native.Nat.{ℕ, _-_}
 use lib.Dec.{T, ltb}
 use lib.ListN.{length}
 use Rattle.laws.proofs.Bools.{passed}
-use Rattle.grid.specs.Grid.{cellCount, columns}
+use Rattle.grid.specs.Grid.{columns}
 use Rattle.packet.specs.declared.Header.{Header}
-use Rattle.page.specs.Records.{cellsOf, recordLength}
 use Rattle.page.specs.declared.Cells.{Cells}
 use Rattle.receiver.specs.Cells.{firstColumn, howMany, oneMissing, rowFound, stored}
-use Rattle.receiver.specs.Effects.{Outcome, closed, doubted, effected, headerTaken, justClosed, opened, openingCells, rowStored, shut, textTaken, unclosed, unsureTaken, withState}
+use Rattle.receiver.specs.Effects.{Outcome, closed, doubted, effected, justClosed, opened, openingCells, rowStored, shut, textTaken, unclosed, unsureTaken}
 use Rattle.receiver.specs.Entries.{lawful}
 use Rattle.receiver.specs.Kinds.{effectDue}
 use Rattle.receiver.specs.Private.{Does, Ready, Storable, doneOf, joined, standingOf}
-use Rattle.receiver.specs.declared.Closing.{Closing}
 use Rattle.receiver.specs.declared.Closing.the-variants.{None}
 use Rattle.receiver.specs.declared.Receiver.{Receiver}
 use Rattle.receiver.specs.declared.effects.Done.{Done}

@@ -17,7 +17,6 @@ use Rattle.receiver.specs.Kinds.{effectDue, headerEffect, seen}
 use Rattle.receiver.specs.Selections.{matches}
 use Rattle.receiver.specs.declared.Receiver.{Receiver}
 use Rattle.receiver.specs.declared.kinds.Effect.{Effect}
-use Rattle.receiver.specs.declared.kinds.Effect.the-variants.{Nothing, Store, Open, Close, Doubt}
 use Rattle.receiver.specs.declared.kinds.Seen.{Seen}
 use Rattle.receiver.specs.declared.kinds.Seen.the-variants.{Another, OurRow, OurHeader}
 use Rattle.receiver.proofs.Causes.{Cause, MayBeOurs, OurText, OursZero, caused, due-another, due-header, due-row, header-effect}

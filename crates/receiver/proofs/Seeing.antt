@@ -12,10 +12,9 @@ use Rattle.coding.specs.Hamming.{message}
 use Rattle.packet.specs.Addresses.{addressOf, magazineOf, rowOf, rowWeight1, shown}
 use Rattle.packet.specs.Lines.{packetByte, packetLength}
 use Rattle.packet.specs.declared.Address.the-variants.{WrongLength}
-use Rattle.receiver.specs.Kinds.{seen, seenOurs, seenWhole}
+use Rattle.receiver.specs.Kinds.{seen, seenWhole}
 use Rattle.receiver.specs.Private.{seenWith, seenWithout}
-use Rattle.receiver.specs.declared.kinds.Seen.{Seen}
-use Rattle.receiver.specs.declared.kinds.Seen.the-variants.{Another, Unsure}
+use Rattle.receiver.specs.declared.kinds.Seen.the-variants.{Another}
 
 -- the magazine of a first message, as its three bits and as a number of 1 to 8
 magazine-by : (first : ℕ) (b : Bool) → eqb (first % 8) 0 ≡ b → cond b 8 (first % 8) % 8 ≡ first % 8

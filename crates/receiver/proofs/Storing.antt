@@ -1,5 +1,5 @@
 -- A row stored column by column: how far the cells and the count have come.
-use mathlib.Core.Path.{_≡_, refl, sym, ap, ap₂, _∙_}
+use mathlib.Core.Path.{_≡_, sym, ap, ap₂, _∙_}
 use mathlib.Core.List.{List, []}
 use mathlib.Core.Option.{Option, none}
 use Prim.Native.Nat.{ℕ, _+_, _-_, _≤_, _<_, zero-le}
@@ -9,7 +9,6 @@ use lib.Seq.{take-length}
 use Rattle.grid.specs.Grid.{columns}
 use Rattle.coding.specs.Characters.{character}
 use Rattle.page.specs.Records.{cellsOf}
-use Rattle.page.specs.declared.Cells.{Cells}
 use Rattle.receiver.specs.Cells.{firstColumn, howMany, keptCharacter, keptMark, laid, rowFound, rowPlace, stored}
 use Rattle.receiver.specs.Private.{one}
 use Rattle.receiver.proofs.Laying.{count-more, laid-more, laid-next, laid-none, one-most}

@@ -78,10 +78,10 @@ module _ (receiver : Receiver) (is : T (lawful receiver)) (open-now : T (receive
         ap (λ (b : Bool). cond b (writing.pageAnswer (held receiver)) ShortRecord) (le-leb recordLength (length lent) long) ∙ page-written
 
     pub closing-writes-the-page : lentAfter receiver lent ≡ writing.written (held receiver) lent
-    unfolding writing.written writing.lentAfter
+    unfolding writing.written writing.bufferAfter
     closing-writes-the-page =
         lent-open receiver lent (passed (receiver .«open») open-now)
-        ∙ ap (λ (a : WriteAnswer). writing.lentAfter a (held receiver) lent) (sym closing-answer)
+        ∙ ap (λ (a : WriteAnswer). writing.bufferAfter a (held receiver) lent) (sym closing-answer)
 
 -- a line that closes writes the page that was held, in doubt where the line put it there
 module _ (receiver : Receiver) (is : T (lawful receiver)) (packet lent : List ℕ) (long : recordLength ≤ length lent) where

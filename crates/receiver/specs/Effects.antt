@@ -1,6 +1,6 @@
 -- Document 01, "The receiver": what each effect of the table does to the receiver and to the lent record, and what the line's answer then says: close,
 -- then open, then store.
-use mathlib.Core.Bool.{Bool, true, false, cond, not, _&&_, _||_}
+use mathlib.Core.Bool.{Bool, true, false, cond, not, _||_}
 use mathlib.Core.List.{List, _++_}
 use Prim.Native.Nat.{ℕ}
 use lib.Dec.{eqb}

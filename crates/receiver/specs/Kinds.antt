@@ -20,7 +20,7 @@ use Rattle.receiver.specs.declared.kinds.Seen.the-variants.{Another, Our
 
 -- ---- what the address shows, by our magazine and the address alone
 
--- the first second message, of row weights 2 to 16, that shows a row past the last one
+-- the least second message, of row weights 2 to 16, that shows a row past the last one
 abbrev pub firstHarmless : ℕ
 firstHarmless = lastRow / 2 + 1
 

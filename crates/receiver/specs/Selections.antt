@@ -2,7 +2,6 @@
 -- and page, and by time code where one was selected. Refusal 13.
 use mathlib.Core.Bool.{Bool, true, _&&_}
 use mathlib.Core.List.{[]}
-use Prim.Native.Nat.{ℕ}
 use lib.Dec.{eqb, leb}
 use Rattle.laws.specs.Paper.{Paper, accepted, refusedBy}
 use Rattle.packet.specs.declared.Header.{Header}

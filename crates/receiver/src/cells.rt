@@ -13,14 +13,12 @@ ghost use Rattle.receiver.specs.Private.{LowMarks, one};
 use coding::Character;
 use grid::CELLS;
 use grid::COLUMNS;
+use packet::C4_WEIGHT;
 use packet::Header;
 use page::FRESH;
 use page::NEVER;
 use page::OLDER;
 use page::SPACE;
-
-// The weight of C4, the first of a header's eleven control bits.
-const C4_WEIGHT: u16 = 1024;
 
 fn kept_character(found: Character, character: u8, mark: u8) -> u8
     ensures { λ r. ⌜ r ≡ keptCharacter (characterHeard found) character mark ⌝ }

@@ -41,7 +41,7 @@ pub(crate) enum Effect {
     Doubt(bool),
 }
 
-// The first second address message that shows a row past the last one.
+// The least second address message that shows a row past the last one.
 const FIRST_HARMLESS: u8 = LAST_ROW / 2 + 1;
 
 // A row of our magazine.

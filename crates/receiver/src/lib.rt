@@ -18,7 +18,6 @@ use effects::answer_of;
 use effects::follow;
 use effects::join;
 use effects::standing_of;
-use grid::CELLS;
 use looking::Looked;
 use looking::look_at_line;
 use looking::look_at_packet;
@@ -147,8 +146,8 @@ impl Receiver {
                 receiver: ZERO_RECEIVER,
             };
         }
-        let characters = [SPACE; CELLS];
-        let marks = [NEVER; CELLS];
+        let characters = [SPACE; Receiver::CELLS];
+        let marks = [NEVER; Receiver::CELLS];
         let cells = Cells { characters, marks };
         let receiver = Receiver {
             selection,

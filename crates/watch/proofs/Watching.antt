@@ -1,11 +1,11 @@
 -- Laws of the watch: a line that goes on is one line more and nothing else; and of a lawful receiver whose record is long enough each line is taken, or refused by
 -- 10 or 11, so that no other number has to be counted.
-use mathlib.Core.Path.{_≡_, refl, sym, ap, _∙_}
+use mathlib.Core.Path.{_≡_, refl, ap, _∙_}
 use mathlib.Core.Bool.{Bool, true, false, cond, _&&_}
 use mathlib.Core.List.{List}
 use mathlib.Core.Logic.{_⊎_, inl, inr}
 use mathlib.Core.Option.{Option, none, some}
-use Prim.Native.Nat.{ℕ, _+_, _-_, _≤_, min}
+use Prim.Native.Nat.{ℕ, _+_, _-_, _≤_}
 use native.Mathlib.Omega.{arith}
 use borrow.Author.Tests.{eqb-true, le-ltb}
 use lib.Dec.{T, eqb}
@@ -23,7 +23,6 @@ use Rattle.receiver.proofs.Entering.{never-18}
 use Rattle.receiver.specs.Recordings.{goesOn, isAccepted}
 use Rattle.watch.specs.Watched.{added, addedIf, closingOf, gapAfter, isNumber, lineWatched, linesPassed, recordingWatched, wordOf}
 use Rattle.watch.specs.declared.Watch.{Watch}
-use Rattle.watch.specs.declared.Watched.{Watched}
 use Rattle.watch.specs.declared.Word.the-variants as word
 
 -- ---- lines that go on

@@ -1,9 +1,7 @@
 -- `announcing::one_older` meets its contract. The loop's invariant: one is older where one was so far, or where one is from here on.
 use mathlib.Core.Path.{_≡_, refl, sym, _∙_, ap}
-use mathlib.Core.Bool.{Bool, false, _||_, or-false}
-use mathlib.Core.List.{List}
+use mathlib.Core.Bool.{Bool, _||_, or-false}
 use Prim.Native.Nat.{_≤_, _-_}
-use native.Mathlib.Omega.{arith}
 use borrow.Author.Needs.{needs}
 use lib.ListN.{length, drop, drop-of-length-le}
 use Rattle.announcing.specs.Told.{oneOlder}

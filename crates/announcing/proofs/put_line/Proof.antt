@@ -1,5 +1,5 @@
 -- `announcing::put_line` meets its contract: the heading, and the word behind it.
-use mathlib.Core.Path.{ap, _∙_}
+use mathlib.Core.Path.{ap}
 use mathlib.Core.List.{List, _++_}
 use Prim.Native.Nat.{ℕ}
 use native.Mathlib.Omega.{arith}

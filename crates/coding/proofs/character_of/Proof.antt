@@ -1,9 +1,6 @@
 -- `coding::character_of` meets its contract: the code's test is the definition's.
-use mathlib.Core.Path.{_≡_, refl}
 use borrow.Author.Tests.{eq-eqb, ne-eqb}
-use lib.Count.{ones}
 use Rattle.laws.specs.Paper.{oneOrNone}
-use Rattle.coding.specs.Bits.{odd}
 use Rattle.coding.specs.Characters.{character, characterPaper}
 use Rattle.coding.proofs.character_of.Statement.{statement}
 use Rattle.coding.proofs.character_of.Tie as tie

@@ -1,6 +1,5 @@
 -- `coding::message_of` meets its contract: the table is the rule worked out for each byte, which the checker computes once, over the whole table.
 use mathlib.Core.Path.{_≡_, refl, sym, ap, _∙_}
-use mathlib.Core.List.{_∷_, []}
 use mathlib.Core.Option.{Option, none, some}
 use Prim.Native.Nat.{ℕ}
 use native.Mathlib.Omega.{arith}

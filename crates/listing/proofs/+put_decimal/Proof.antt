@@ -9,7 +9,7 @@ use Rattle.listing.specs.Held.{lineOf}
 use Rattle.listing.specs.Private.{textOf}
 use Rattle.listing.proofs.Decimal.{decimal-one, decimal-more, decimal-longer}
 use Rattle.listing.proofs.Held.{ready, weaker, and-then}
-use Prim.Native.Nat.{ℕ, _+_, _/_, _<_}
+use Prim.Native.Nat.{ℕ, _/_, _<_}
 use borrow.Fn.Kinds.{In}
 use borrow.Fn.PlainCycle.{Measures, is, falls, and}
 use Rattle.listing.proofs.put_decimal.Reads as put-decimal

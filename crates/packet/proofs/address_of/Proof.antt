@@ -1,5 +1,5 @@
 use borrow.Author.Tests.{eq-eqb, ne-eqb}
-use Rattle.packet.specs.Addresses.{addressOf, addressPaper}
+use Rattle.packet.specs.Addresses.{addressOf}
 use Rattle.packet.specs.Lines.{packetByte}
 use Rattle.coding.proofs.Heard.{message-heard, small-heard}
 use borrow.Author.Needs.{needs}

@@ -1,7 +1,5 @@
 -- `printer::print_record` meets its contract: by the reader's answer, the page or one line.
 use mathlib.Core.Path.{_≡_, sym, _∙_, ap}
-use mathlib.Core.List.{List}
-use Prim.Native.Nat.{ℕ}
 use lib.ListN.{length}
 use Rattle.laws.specs.Paper.{accepted, refusedBy}
 use Rattle.page.specs.Reading.{readPaper, pageRead}

@@ -1,5 +1,5 @@
 -- `receive::carry` meets its contract. The loop's invariant: so many bytes are moved, and those from there on are as they were.
-use mathlib.Core.Path.{_≡_, refl}
+use mathlib.Core.Path.{_≡_}
 use Prim.Native.Nat.{_+_, _≤_, _-_}
 use native.Mathlib.Omega.{arith}
 use borrow.Author.Needs.{needs}

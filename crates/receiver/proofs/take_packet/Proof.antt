@@ -1,6 +1,4 @@
 use mathlib.Core.Path.{refl, sym, ap, _∙_, subst}
-use mathlib.Core.List.{List}
-use Prim.Native.Nat.{ℕ}
 use denote.Ref.{now}
 use Rattle.receiver.specs.Entries.{packetEntered, packetTaken}
 use Rattle.receiver.specs.Private.{joined}

@@ -1,6 +1,5 @@
 -- `watch::after_line` meets its contract: part by part, from what was heard in the answer.
-use mathlib.Core.Path.{ap}
-use Rattle.watch.specs.Watched.{lineWatched, isNumber, closingOf, gapAfter}
+use Rattle.watch.specs.Watched.{lineWatched, isNumber, gapAfter}
 use Rattle.receiver.specs.Recordings.{isAccepted}
 use borrow.Author.Needs.{needs}
 use Rattle.watch.proofs.after_line.Statement.{statement}

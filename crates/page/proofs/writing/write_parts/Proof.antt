@@ -9,7 +9,7 @@ use denote.Enum.Declared.{tagOf}
 use lib.ListN.{length, drop}
 use types.Run.{OneOf}
 use Rattle.page.specs.Records.{cellsOf, pageOf}
-use Rattle.page.specs.Writing.{lentAfter, writeAnswer}
+use Rattle.page.specs.Writing.{bufferAfter, writeAnswer}
 use Rattle.page.specs.declared.Page.{Page}
 use Rattle.page.specs.declared.WriteAnswer.{WriteAnswer}
 use Rattle.page.specs.declared.WriteAnswer.the-variants.{Written, ShortRecord, TooLarge, BadDigit, UnlawfulCells}
@@ -27,7 +27,7 @@ abbrev lent : tie.Start → List ℕ
 lent c = c .args .«record» .now
 
 returns : tie.Need-returns
-unfolding writeAnswer lentAfter
+unfolding writeAnswer bufferAfter
 returns c =
     let start = c .before .before in
     answered (page start) (lent start) ShortRecord (rw (lt-leb _ _ (c .if1 .taken)))
@@ -48,8 +48,8 @@ module _ (c : tie.After-page-answer) where
 
 -- any other answer leaves what is lent
 nothing-stored : (page : Page) (lent : List ℕ) (answer : WriteAnswer)
-    → OneOf (1 ∷ 2 ∷ 3 ∷ 4 ∷ []) (tagOf the-type answer) → lentAfter answer page lent ≡ lent
-unfolding lentAfter
+    → OneOf (1 ∷ 2 ∷ 3 ∷ 4 ∷ []) (tagOf the-type answer) → bufferAfter answer page lent ≡ lent
+unfolding bufferAfter
 nothing-stored page lent Written t = absurd (⊎-elim (λ e. omega arith) (λ t. ⊎-elim (λ e. omega arith) (λ t. ⊎-elim (λ e. omega arith) (λ t. omega arith) t) t) t)
 nothing-stored page lent ShortRecord t = refl
 nothing-stored page lent TooLarge t = refl
@@ -78,7 +78,7 @@ same-length : tie.Need-same-length
 same-length c = search needs
 
 returns-3 : tie.Need-returns-3
-unfolding lentAfter
+unfolding bufferAfter
 returns-3 c =
     let cells = c .before .before in
     let stored = cells .before .before .before .before .before .before in

@@ -3,9 +3,8 @@ use native.Mathlib.Nat.{not-suc-le-zero}
 use lib.Seq.{getD-set-other}
 use Rattle.laws.proofs.Lists.{stored-more}
 use Rattle.laws.proofs.Maps.{map-is}
-use Rattle.page.specs.Lawful.{highestMark}
 use mathlib.Core.Path.{_≡_, refl}
-use Prim.Native.Nat.{ℕ, _+_, _-_, _≤_, _<_}
+use Prim.Native.Nat.{ℕ, _-_, _≤_, _<_}
 use native.Mathlib.Omega.{arith}
 use borrow.Author.Needs.{needs}
 use lib.ListN.{length, getD}

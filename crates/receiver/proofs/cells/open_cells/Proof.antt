@@ -1,10 +1,7 @@
-use mathlib.Core.Path.{refl, sym, ap, _∙_}
+use mathlib.Core.Path.{sym, ap, _∙_}
 use mathlib.Core.Bool.{Bool, cond}
-use mathlib.Core.List.{List}
-use Prim.Native.Nat.{ℕ}
 use denote.Ref.{now}
 use Rattle.page.specs.Records.{cellsOf}
-use Rattle.page.specs.declared.Cells.{Cells}
 use Rattle.receiver.specs.Cells.{aged, blank}
 use Rattle.receiver.specs.Effects.{openingCells}
 use borrow.Author.Needs.{needs}

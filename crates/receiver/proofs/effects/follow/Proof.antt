@@ -2,7 +2,7 @@ use mathlib.Core.Path.{sym, ap, _∙_, subst}
 use denote.Ref.{now}
 use Rattle.packet.specs.Headers.{headerOf}
 use Rattle.packet.specs.Texts.{textOf}
-use Rattle.receiver.specs.Effects.{effected, taken}
+use Rattle.receiver.specs.Effects.{taken}
 use Rattle.receiver.specs.Kinds.{effectDue, effectOf}
 use Rattle.receiver.specs.Private.{Storable, joined}
 use Rattle.receiver.specs.declared.kinds.Seen.{Seen}

@@ -1,9 +1,8 @@
-use mathlib.Core.Path.{refl, sym, ap, ap₂, _∙_}
+use mathlib.Core.Path.{refl, ap, _∙_}
 use mathlib.Core.List.{List}
 use Prim.Native.Nat.{ℕ}
 use lib.ListN.{length}
 use denote.Ref.{now}
-use Rattle.page.specs.declared.Cells.{Cells}
 use Rattle.receiver.specs.Cells.{howMany, rowFound, stored}
 use Rattle.receiver.specs.Effects.{closed, headerTaken, opened, rowStored}
 use Rattle.receiver.specs.Private.{joined}

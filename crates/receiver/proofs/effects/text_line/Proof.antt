@@ -1,9 +1,8 @@
-use mathlib.Core.Path.{refl, sym, ap, _∙_}
+use mathlib.Core.Path.{refl, ap, _∙_}
 use mathlib.Core.List.{List}
 use Prim.Native.Nat.{ℕ}
 use lib.ListN.{length}
 use denote.Ref.{now}
-use Rattle.packet.specs.Texts.{textOf}
 use Rattle.receiver.specs.Cells.{howMany, rowFound}
 use Rattle.receiver.specs.Effects.{rowStored, textTaken}
 use Rattle.receiver.specs.Private.{joined}

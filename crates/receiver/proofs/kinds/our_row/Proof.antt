@@ -1,6 +1,4 @@
-use native.Mathlib.Omega.{arith}
 use borrow.Author.Tests.{eq-eqb, le-leb, lt-leb, ne-eqb}
-use Rattle.grid.specs.Grid.{lastRow}
 use Rattle.receiver.specs.Kinds.{seenOurs}
 use Rattle.receiver.proofs.kinds.our_row.Statement.{statement}
 use Rattle.receiver.proofs.kinds.our_row.Tie as tie

@@ -1,6 +1,3 @@
-use mathlib.Core.Path.{ap, _∙_}
-use mathlib.Core.Option.{Option}
-use Prim.Native.Nat.{ℕ}
 use native.Mathlib.Omega.{arith}
 use Rattle.coding.proofs.Heard.{heard-good, heard-refused, message-heard, small-good, small-heard}
 use Rattle.receiver.specs.Private.{seenWith}
