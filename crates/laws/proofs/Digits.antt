@@ -96,9 +96,3 @@ pub three-runs : (i j k x y z : ℕ)
 three-runs i j k x y z =
     binary-append (digits i x) (digits j y ++ digits k z)
     ∙ rw (length-append (digits j y) (digits k z), length-digits j y, length-digits k z, binary-digits i x, two-runs j k y z) (omega arith)
-
--- ---- digits cut in three
-
-pub digits-cut-3 : (i j k value : ℕ) → digits (i + (j + k)) value ≡ digits i (value / 2 ^ (j + k)) ++ (digits j (value / 2 ^ k) ++ digits k value)
-digits-cut-3 i j k value =
-    digits-cut i (j + k) value ∙ ap (λ (xs : List ℕ). digits i (value / 2 ^ (j + k)) ++ xs) (digits-cut j k value)
