@@ -2,10 +2,10 @@
 """What the program `cost` is given for a piece of work: case.py WORK COUNT, with the way before the work where there are several.
 
     lines: (value | lent | recording) (other | stored | opening | closing | pair) COUNT
-    fields: search (15 | 30 | 60) COUNT      records: (write | read) page COUNT      rows: row (letters | mosaics) COUNT
+    fields: search (15 | 30 | 60) COUNT      records: (write | read) page COUNT      pages: page (letters | controls | doubles | headlines) COUNT
 
 The bytes come from the file `input` beside this script, and are no constants of the program, so that nothing is worked out beforehand: five pairs of data-lines, which
-are taken in turn, two rows of codes, a field of 60 units, and the record of a page with a header and one row.
+are taken in turn, two rows of codes, of which pages are made, a field of 60 units, and the record of a page with a header and one row.
 """
 import os
 import sys
@@ -27,7 +27,18 @@ LINES = {
 }
 WAYS = {"value": b"l", "lent": b"m", "recording": b"r"}
 FIELDS = {"15": 691, "30": 1381, "60": 2761}
-ROWS = {"letters": 450, "mosaics": 490}
+COLUMNS = 40
+LETTERS = INPUT[450:450 + COLUMNS]
+MOSAICS = INPUT[490:490 + COLUMNS]
+
+# A page of 24 rows of letters; of control codes and mosaics, without and with a 0D in each row, so that in the second every other row is a lower one; and of letters with
+# a double-height headline on rows 1, 3, and so on to 21.
+PAGES = {
+    "letters": 24 * LETTERS,
+    "controls": 24 * MOSAICS.replace(b"\x0d", b"\x00"),
+    "doubles": 24 * MOSAICS,
+    "headlines": 11 * (LETTERS + b"\x0d" + LETTERS[1:]) + 2 * LETTERS,
+}
 
 
 def framed(work, count, data):
@@ -54,7 +65,7 @@ def main(way, work, count):
         "search": lambda: framed(b"f", count, INPUT[530:530 + FIELDS.get(work, 0)]),
         "write": lambda: framed(b"w", count, INPUT[3291:]),
         "read": lambda: framed(b"d", count, INPUT[3291:]),
-        "row": lambda: framed(b"g", count, INPUT[ROWS.get(work, 0):][:40]),
+        "page": lambda: framed(b"g", count, PAGES.get(work, b"")),
     }[way]()
 
 

@@ -1,7 +1,7 @@
 //! The answer to a case, worked out from the case's own bytes.
 
 use crate::bits::{character, framing_passes, message, test_a, test_b, test_c, test_d, turned};
-use crate::display::{display, Cell, Symbol};
+use crate::display::{display, Cell, Height, Symbol};
 use crate::field::{list, search, unit_from, Found};
 use crate::packet::{address, data_line_refusal, forty, header, zero_header, Address};
 use crate::receiver::{new_receiver, play, receive_line, receive_line_lent, receive_packet, Answer, Receiver};
@@ -116,9 +116,13 @@ fn cell_bytes(cell: &Cell) -> [u8; 8] {
         Symbol::Mosaic { pattern, separated: false } => (b'C', pattern),
         Symbol::Mosaic { pattern, separated: true } => (b'S', pattern),
     };
-    let (flash, conceal) = (cell.flash as u8, cell.conceal as u8);
-    let (boxed, double) = (cell.boxed as u8, cell.double as u8);
-    [kind, value, cell.foreground, cell.background, flash, conceal, boxed, double]
+    let height = match cell.height {
+        Height::Normal => 0,
+        Height::Upper => 1,
+        Height::Lower => 2,
+    };
+    let (flash, conceal, boxed) = (cell.flash as u8, cell.conceal as u8, cell.boxed as u8);
+    [kind, value, cell.foreground, cell.background, flash, conceal, boxed, height]
 }
 
 /// Sort g.

@@ -2,7 +2,7 @@
 
 use crate::random::Random;
 use crate::text::Case;
-use crate::{case_fields, case_lines, case_receivers, case_records, case_rows, case_sequences};
+use crate::{case_fields, case_lines, case_pages, case_receivers, case_records, case_sequences};
 
 pub const MAKERS: &str = "bnaslmperwdfug";
 
@@ -26,13 +26,17 @@ fn weight(maker: char) -> u64 {
     }
 }
 
+/// A page (sort g) counts as so many cases: its answer has 7,681 bytes, and it shows 24 rows at once. At COUNT 50000 some 330 are made, of 8,000 rows.
+const CASES_FOR_A_PAGE: u64 = 16;
+
 /// How many cases a maker makes, where COUNT is shared out over the makers asked for.
 pub fn share(maker: char, count: u64, makers: &str) -> u64 {
     if maker == 'b' {
         return 256;
     }
     let whole: u64 = MAKERS.chars().filter(|m| makers.contains(*m)).map(weight).sum();
-    std::cmp::max(1, count * weight(maker) / whole)
+    let for_one = if maker == 'g' { CASES_FOR_A_PAGE } else { 1 };
+    std::cmp::max(1, count * weight(maker) / whole / for_one)
 }
 
 /// The case with this number among those of its maker.
@@ -48,7 +52,7 @@ pub fn case(maker: char, i: u64, random: &mut Random) -> Case {
         'w' => case_records::page_to_write(i, random),
         'd' => case_records::record_to_read(i, random),
         'f' | 'u' => case_fields::field_and_place(maker, i, random),
-        'g' => Case::alone('g', case_rows::row(i, random)),
+        'g' => Case::alone('g', case_pages::page(i, random)),
         _ => panic!("no such maker"),
     }
 }

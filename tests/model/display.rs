@@ -1,6 +1,7 @@
-//! Display cells of one row of 40 codes.
+//! Display cells of a page: 24 rows of 40 codes.
 
 use crate::bits::b;
+use crate::record::{CELLS, COLUMNS, ROWS};
 
 /// "A letter with its code, or a mosaic with six bits and contiguous or separated."
 #[derive(Clone, Copy, PartialEq, Debug)]
@@ -9,7 +10,15 @@ pub enum Symbol {
     Mosaic { pattern: u8, separated: bool },
 }
 
-/// A cell: its symbol, foreground and background, flash, conceal, boxed, double.
+/// Normal, or double: "a cell gains "upper" or "lower" beside double".
+#[derive(Clone, Copy, PartialEq, Debug)]
+pub enum Height {
+    Normal,
+    Upper,
+    Lower,
+}
+
+/// A cell: its symbol, foreground and background, flash, conceal, boxed, height.
 #[derive(Clone, Copy, PartialEq, Debug)]
 pub struct Cell {
     pub symbol: Symbol,
@@ -18,7 +27,7 @@ pub struct Cell {
     pub flash: bool,
     pub conceal: bool,
     pub boxed: bool,
-    pub double: bool,
+    pub height: Height,
 }
 
 /// The state along a row.
@@ -47,7 +56,7 @@ pub fn zero_cell() -> Cell {
         flash: false,
         conceal: false,
         boxed: false,
-        double: false,
+        height: Height::Normal,
     }
 }
 
@@ -68,9 +77,9 @@ fn start() -> State {
     }
 }
 
-/// 25: row to be displayed is not 40 codes of 00 to 7F.
+/// 25, which "now asks for the page's 960 codes" of 00 to 7F.
 fn cause_25(codes: &[u8]) -> bool {
-    codes.len() != 40 || codes.iter().any(|code| *code > 0x7F)
+    codes.len() != CELLS || codes.iter().any(|code| *code > 0x7F)
 }
 
 /// 0C: normal; "held goes blank when [...] size really changes".
@@ -169,22 +178,65 @@ fn cell(state: &mut State, before: Option<u8>, code: u8) -> Cell {
         flash: state.flash,
         conceal: state.conceal,
         boxed: state.boxed,
-        double: state.double,
+        height: if state.double { Height::Upper } else { Height::Normal },
     };
     after_cell(state, code);
     cell
 }
 
-/// "Rows are worked out each alone."
-pub fn display(codes: &[u8]) -> (u8, Vec<Cell>) {
-    if cause_25(codes) {
-        return (25, vec![zero_cell(); 40]);
-    }
+/// What the codes of a row give alone.
+fn row_alone(codes: &[u8]) -> Vec<Cell> {
     let mut state = start();
     let mut cells = Vec::new();
-    for column in 0..40 {
+    for column in 0..COLUMNS {
         let before = if column == 0 { None } else { Some(codes[column - 1]) };
         cells.push(cell(&mut state, before, codes[column]));
     }
-    (0, cells)
+    cells
+}
+
+/// "On rows 0 and 23 the code 0D does nothing": there it is a control code like 00.
+fn obeyed(row: usize, codes: &[u8]) -> Vec<u8> {
+    let idle = row == 0 || row == 23;
+    codes.iter().map(|code| if idle && *code == 0x0D { 0x00 } else { *code }).collect()
+}
+
+/// "Where a displayed row from 1 to 22 has a 0D code, the row below doesn't show its own
+/// characters": in whatever column the code stands, and whatever comes after it.
+fn takes_the_row_below(row: usize, codes: &[u8]) -> bool {
+    (1..=22).contains(&row) && codes.contains(&0x0D)
+}
+
+/// "Under a double cell it shows that cell's lower half, under any other a space on that cell's
+/// background"; "all else is as in the cell above".
+fn cell_below(above: &Cell) -> Cell {
+    match above.height {
+        Height::Normal => Cell { symbol: Symbol::Letter(0x20), ..*above },
+        Height::Upper | Height::Lower => Cell { height: Height::Lower, ..*above },
+    }
+}
+
+/// The rows from the top; one that the row above takes "isn't searched for 0D itself".
+fn page_cells(codes: &[u8]) -> Vec<Cell> {
+    let mut cells: Vec<Cell> = Vec::new();
+    let mut taken = false;
+    for row in 0..ROWS {
+        let own = &codes[row * COLUMNS..(row + 1) * COLUMNS];
+        let displayed: Vec<Cell> = if taken {
+            cells[(row - 1) * COLUMNS..].iter().map(cell_below).collect()
+        } else {
+            row_alone(&obeyed(row, own))
+        };
+        cells.extend(displayed);
+        taken = !taken && takes_the_row_below(row, own);
+    }
+    cells
+}
+
+/// The number and the page's 960 cells, row by row.
+pub fn display(codes: &[u8]) -> (u8, Vec<Cell>) {
+    if cause_25(codes) {
+        return (25, vec![zero_cell(); CELLS]);
+    }
+    (0, page_cells(codes))
 }

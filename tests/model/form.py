@@ -13,8 +13,9 @@ SORTS = "".join(PROGRAMS.values())
 # A case: its sort, and its parts as bytes: the input and, for `replay`, the record that is lent.
 Case = collections.namedtuple("Case", "sort parts")
 
+ROWS = 24
 COLUMNS = 40
-CELLS = 24 * COLUMNS
+CELLS = ROWS * COLUMNS
 STEP = 3
 
 # The parts of inputs and answers, each with its length in bytes.
@@ -71,7 +72,8 @@ def input_parts(case):
         at += length
     if case.sort == "r":
         return found + [(f"step {n}, entry {entry}", data) for n, (entry, data) in enumerate(steps_of(case))] + [("record", case.parts[1])]
-    return found + [("the rest", case.parts[0][at:])] + [("record", part) for part in case.parts[1:]]
+    rest = "codes" if case.sort == "g" else "the rest"
+    return found + [(rest, case.parts[0][at:])] + [("record", part) for part in case.parts[1:]]
 
 
 def answer_parts(case):
@@ -88,7 +90,7 @@ def answer_parts(case):
         "a": NUMBER + [("messages read", 1), ("address", 2), ("header's number", 1)] + HEADER + [("text", COLUMNS)],
         "f": NUMBER + [("parity", 1), ("offset", 1), ("place", 4), ("after", 4)],
         "u": NUMBER + [("id", 1), ("length", 1), ("place", 4), ("after", 4)],
-        "g": NUMBER + [(f"cell {column}", 8) for column in range(COLUMNS)],
+        "g": NUMBER + [(f"row {row}, cell {column}", 8) for row in range(ROWS) for column in range(COLUMNS)],
         "s": NUMBER + RECEIVER,
         "w": NUMBER + record,
         "d": NUMBER + PAGE,

@@ -1,21 +1,24 @@
-//! An independent model of document 01: prints seeded cases, each with the answer expected.
+//! An independent model of document 01 and of request 1 of document 02: prints seeded cases, each
+//! with the answer expected.
 //!
-//! `model SEED COUNT [MAKERS]` prints about COUNT cases, shared out over the makers asked for (all
-//! where none are named): a case line, then "= " and its answer, as FORMAT.md has them. `model
-//! marked` checks the marked cases. `model demand SEED COUNT` checks the two laws on clean closings
-//! over random runs.
+//! `model SEED COUNT [MAKERS]` prints about COUNT cases, of which a page to be displayed counts as
+//! several, shared out over the makers asked for (all where none are named): a case line, then "= "
+//! and its answer, as FORMAT.md has them. `model marked` checks the marked cases. `model demand SEED
+//! COUNT` checks the two laws on clean closings over random runs, `model double SEED COUNT` those on
+//! double height over random pages.
 
 mod answers;
 mod bits;
 mod case_fields;
 mod case_lines;
+mod case_pages;
 mod case_receivers;
 mod case_records;
-mod case_rows;
 mod case_sequences;
 mod cases;
 mod demand;
 mod display;
+mod double;
 mod field;
 mod marked;
 mod packet;
@@ -51,8 +54,9 @@ fn main() {
     match words[..] {
         ["marked"] => marked::print(),
         ["demand", seed, count] => demand::print(number(seed), number(count)),
+        ["double", seed, count] => double::print(number(seed), number(count)),
         [seed, count] => print_cases(number(seed), number(count), cases::MAKERS),
         [seed, count, makers] => print_cases(number(seed), number(count), makers),
-        _ => println!("model SEED COUNT [MAKERS] | model marked | model demand SEED COUNT"),
+        _ => println!("model SEED COUNT [MAKERS] | model marked | model demand SEED COUNT | model double SEED COUNT"),
     }
 }

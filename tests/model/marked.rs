@@ -4,7 +4,7 @@ use crate::bits::{character, exact, framing_passes, message, test_d, SENT};
 use crate::display::{display, pattern, Cell, Symbol};
 use crate::packet::{address, zero_header, Address};
 use crate::receiver::{new_receiver, Selection};
-use crate::record::{write_page, Page};
+use crate::record::{write_page, Page, CELLS, COLUMNS, ROWS};
 
 /// The address of a packet that begins with these bytes (after turning).
 fn address_of(first: u8, second: u8) -> Address {
@@ -14,11 +14,17 @@ fn address_of(first: u8, second: u8) -> Address {
     address(&packet)
 }
 
-/// The cells of a row that begins with these codes.
-fn cells(codes: &[u8]) -> Vec<Cell> {
-    let mut row = codes.to_vec();
-    row.resize(40, 0x20);
-    display(&row).1
+/// The cells of one row of a page that begins with these codes, among spaces.
+fn cells(codes: &[u8], row: usize) -> Vec<Cell> {
+    let start = row * COLUMNS;
+    let mut page = vec![0x20; CELLS];
+    page[start..start + codes.len()].copy_from_slice(codes);
+    display(&page).1[start..start + COLUMNS].to_vec()
+}
+
+/// Does this hold of the row that begins with these codes, whichever of the 24 it is?
+fn on_every_row(codes: &[u8], holds: fn(&[Cell]) -> bool) -> bool {
+    (0..ROWS).all(|row| holds(&cells(codes, row)))
 }
 
 /// A corrected byte: its message is this and it is not exact.
@@ -31,26 +37,38 @@ fn mosaic(cell: &Cell, pattern: u8, foreground: u8) -> bool {
     cell.symbol == Symbol::Mosaic { pattern, separated: false } && cell.foreground == foreground
 }
 
+/// Case 9, also as the page shows it.
+fn case_9() -> bool {
+    let patterns = pattern(0x35) == 21 && pattern(0x60) == 32 && pattern(0x7F) == 63;
+    patterns
+        && on_every_row(&[0x11, 0x35, 0x60, 0x7F], |row| {
+            mosaic(&row[1], 21, 1) && mosaic(&row[2], 32, 1) && mosaic(&row[3], 63, 1)
+        })
+}
+
 /// Case 10.
 fn case_10() -> bool {
-    let row = cells(&[0x11, 0x7F, 0x1E, 0x12, 0x20]);
-    row[0].symbol == Symbol::Letter(0x20)
-        && mosaic(&row[1], 63, 1)
-        && mosaic(&row[2], 63, 1)
-        && mosaic(&row[3], 63, 1)
-        && mosaic(&row[4], 0, 2)
+    on_every_row(&[0x11, 0x7F, 0x1E, 0x12, 0x20], |row| {
+        row[0].symbol == Symbol::Letter(0x20)
+            && mosaic(&row[1], 63, 1)
+            && mosaic(&row[2], 63, 1)
+            && mosaic(&row[3], 63, 1)
+            && mosaic(&row[4], 0, 2)
+    })
 }
 
 /// Case 11.
 fn case_11() -> bool {
-    let row = cells(&[0x0B, 0x0B, 0x41, 0x0A, 0x0A]);
-    (0..40).all(|column| row[column].boxed == (1..=3).contains(&column))
+    on_every_row(&[0x0B, 0x0B, 0x41, 0x0A, 0x0A], |row| {
+        (0..COLUMNS).all(|column| row[column].boxed == (1..=3).contains(&column))
+    })
 }
 
 /// Case 12.
 fn case_12() -> bool {
-    let a = cells(&[0x01, 0x1D, 0x41])[2];
-    a.symbol == Symbol::Letter(0x41) && a.foreground == 1 && a.background == 1
+    on_every_row(&[0x01, 0x1D, 0x41], |row| {
+        row[2].symbol == Symbol::Letter(0x41) && row[2].foreground == 1 && row[2].background == 1
+    })
 }
 
 /// Case 13.
@@ -81,7 +99,7 @@ fn marked_cases() -> Vec<bool> {
         address_of(0xD0, 0x9B) == Address::Whole { magazine: 8, row: 23 },
         character(0xC1) == Some(0x41) && character(0x41).is_none(),
         framing_passes(0xE4) && framing_passes(0xE5) && !framing_passes(0xE7) && !framing_passes(0x1B),
-        pattern(0x35) == 21 && pattern(0x60) == 32 && pattern(0x7F) == 63,
+        case_9(),
         case_10(),
         case_11(),
         case_12(),

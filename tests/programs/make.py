@@ -1,6 +1,6 @@
 #!/usr/bin/env python3
-"""Cases for the two programs, written from document 01, "Programs", by a small model of its own: what a field's units are, how a record is packed,
-and what each cell of a row prints. Nothing here is taken from the project's code.
+"""Cases for the two programs, written from document 01, "Programs", and request 1 of document 02 by a small model of its own: what a field's units
+are, how a record is packed, and what each cell of a page prints. Nothing here is taken from the project's code.
 
   make.py FOLDER           write FOLDER/units/*.in, *.out and FOLDER/printer/*.in, *.out
   make.py FOLDER --small   the same without the inputs of more than 4,096 bytes, as they are kept beside this file"""
@@ -139,7 +139,7 @@ class Page:
 
 
 def printed_row(codes):
-    """Colours, flash, box and size never show in the text; what is held is always some mosaic, and so a question mark."""
+    """What a row's own codes print. Colours, flash, box and size never show in it; what is held is always some mosaic, and so a question mark."""
     text, mosaics, hold = "", False, False
     for code in codes:
         hold = hold or code == 0x1E
@@ -155,11 +155,77 @@ def printed_row(codes):
     return text
 
 
+def double_cells(codes):
+    """Which cells of a row are double: those after a 0D, up to a 0C."""
+    cells, double = [], False
+    for code in codes:
+        double = double and code != 0x0C
+        cells.append(double)
+        double = double or code == 0x0D
+    return cells
+
+
+def printed_below(codes):
+    """What the row below a doubled one prints: the same again under a double cell, and a space under any other."""
+    return "".join(letter if double else " " for letter, double in zip(printed_row(codes), double_cells(codes)))
+
+
+def printed_rows(rows):
+    """The lines of a page, from the top: a row from 1 to 22 that has a 0D takes the row below it too, which is not looked at."""
+    lines = []
+    while len(lines) < len(rows):
+        number, codes = len(lines), rows[len(lines)]
+        lines.append(printed_row(codes))
+        if 1 <= number <= 22 and 0x0D in codes:
+            lines.append(printed_below(codes))
+    return lines
+
+
 def printing(page):
     number = page.refused()
     if number:
         return f"refused {number}\n"
-    return "".join(printed_row(row) + "\n" for row in page.characters)
+    return "".join(line + "\n" for line in printed_rows(page.characters))
+
+
+HEADLINE = b"now \x0DBIG\x0Cend"
+
+
+def full_page():
+    """A page with text on every row."""
+    page = Page()
+    for row in range(24):
+        page.put(row, f"row {row} has text from here to the right")
+    return page
+
+
+def headlines_on(rows):
+    """A 0D on each of these rows, each in another column."""
+    page = full_page()
+    for row in rows:
+        page.put(row, b"e" * row + b"\x0DBIG")
+    return page
+
+
+def headlines():
+    """Double height over the page, above text that it hides or leaves."""
+    yield "headline_on_row_1", full_page().put(1, HEADLINE)
+    yield "headline_on_row_22", full_page().put(22, HEADLINE)
+    yield "no_headline_on_row_0", full_page().put(0, HEADLINE)
+    yield "no_headline_on_row_23", full_page().put(23, HEADLINE)
+    yield "headline_in_column_0", full_page().put(6, b"\x0DBIG")
+    yield "headline_in_column_39", full_page().put(6, b"x" * 39 + b"\x0D")
+    yield "headlines_on_two_rows_running", full_page().put(4, HEADLINE).put(5, b"hidden \x0DHIDDEN")
+    yield "headlines_on_three_rows_running", full_page().put(4, HEADLINE).put(5, b"hidden \x0DHIDDEN").put(6, b"shown \x0DTWICE")
+    yield "headlines_on_every_row", headlines_on(range(24))
+    yield "headlines_from_row_2_on", headlines_on(range(2, 24))
+    yield "headline_undone_at_once", full_page().put(8, b"small \x0D\x0C text with nothing below it")
+    yield "headline_undone_and_again", full_page().put(8, b"\x0DBIG\x0Csmall\x0DBIG")
+    yield "headline_of_mosaics", full_page().put(10, b"\x11\x35\x0D\x35\x41\x7F\x1E\x12\x0C\x12\x35\x0D\x07\x41\x7F")
+    yield "mosaics_below_headline", full_page().put(10, HEADLINE).put(11, [0x11] + [0x7F] * 39)
+    yield "control_codes_below_headline", full_page().put(10, HEADLINE).put(11, [0x0C, 0x11, 0x1E, 0x0D] + [0x7F] * 36)
+    yield "headlines_on_the_last_three_rows", full_page().put(21, HEADLINE).put(22, HEADLINE).put(23, HEADLINE)
+    yield "headline_concealed", full_page().put(14, b"\x18\x0DANSWER\x07\x0Cshown")
 
 
 def pages():
@@ -179,8 +245,8 @@ def pages():
     yield "double_height", Page().put(13, [0x0D] + list(b"DOUBLE") + [0x0C] + list(b"normal")).put(14, "below")
     yield "boxed", Page().put(15, [0x0B, 0x0B, 0x41, 0x0A, 0x0A, 0x42])
     yield "colours_and_flash", Page().put(16, [0x01, 0x1D, 0x41, 0x1C, 0x08, 0x42, 0x09, 0x43, 0x19, 0x1A, 0x44])
-    yield "control_codes", Page().put(17, range(0x20)).put(18, [0x00, 0x0E, 0x0F, 0x10, 0x1B, 0x41])
-    yield "rows_each_alone", Page().put(19, [0x20] * 39 + [0x11]).put(20, "letters again").put(21, [0x17, 0x1E] + [0x7F] * 38).put(22, [0x09, 0x30])
+    yield "control_codes", Page().put(17, range(0x20)).put(19, [0x00, 0x0E, 0x0F, 0x10, 0x1B, 0x41])
+    yield "rows_start_afresh", Page().put(19, [0x20] * 39 + [0x11]).put(20, "letters again").put(21, [0x17, 0x1E] + [0x7F] * 38).put(22, [0x09, 0x30])
     yield "header_from_column_8", Page().put(0, [0x11] + [0x7F] * 31)
     yield "older", Page(clean=0).put(1, "older text", OLDER).put(2, "fresh text").put(3, [0x20] * 40, OLDER)
     yield "every_part", Page(magazine=0, tens=9, units=9, hours_tens=3, hours_units=15, minutes_tens=7, minutes_units=15, control=2047).put(1, "x")
@@ -197,6 +263,7 @@ def pages():
     yield "header_column_7", Page().cell(0, 7, OLDER, 0x50)
     yield "21_before_22", Page(zero=2, tens=12).cell(1, 1, 3, 0x41)
     yield "22_before_23", Page(units=11).cell(1, 1, 3, 0x41)
+    yield from headlines()
     for seed in range(10):
         draw = random.Random(f"page {seed}")
         page = Page(control=draw.randrange(2048), tens=draw.randrange(10), units=draw.randrange(10), clean=draw.randrange(2))

@@ -40,6 +40,17 @@ LINE, PACKET, PLAYED, LEFT = "002d", "002a", "005d", "0003"
 RECORDING = START + HEADER_100 + START + HEADER_101 + START
 
 LETTER, MOSAIC = b"L".hex(), b"C".hex()
+
+# Forty cells: spaces, white on black. A page whose row 1 is marked case 10 with spaces to its end, and whose row 3 is double from its first column on, so that
+# row 4, of the letter A, is not shown. A cell is its kind, code or pattern, foreground, background, flash, conceal, boxed and height: 1 upper, 2 lower.
+BLANK_ROW = 40 * (LETTER + "2007000000 0000")
+HELD = "117f1e1220" + 35 * "20"
+HELD_ROW = LETTER + "2007000000 0000" + 3 * (MOSAIC + "3f01000000 0000") + 36 * (MOSAIC + "0002000000 0000")
+HEADLINE = "0d" + 39 * "42"
+UPPER_ROW = LETTER + "2007000000 0000" + 39 * (LETTER + "4207000000 0001")
+LOWER_ROW = LETTER + "2007000000 0000" + 39 * (LETTER + "4207000000 0002")
+SHOWN = 40 * "20" + HELD + 40 * "20" + HEADLINE + 40 * "41" + 19 * 40 * "20"
+SHOWN_CELLS = BLANK_ROW + HELD_ROW + BLANK_ROW + UPPER_ROW + LOWER_ROW + 19 * BLANK_ROW
 STEP_L, STEP_M, STEP_P, STEP_R = (letter.encode().hex() for letter in "lmpr")
 
 # Of each program: sort, input, record, answer.
@@ -51,9 +62,9 @@ CASES = {
         # One unit: reserved bits set, parity 1, offset 7.
         ("f", 8 * "00" + "10" + "022c" + "e7e4" + ROW_1, None, "00 01 07 00000005 0000002f"),
         ("u", 8 * "00" + "99ff00", None, "00 ff 00 00000000 00000003"),
-        # Marked case 10, and spaces to the row's end.
-        ("g", "117f1e1220" + 35 * "20", None,
-         "00" + LETTER + "2007000000 0000" + 3 * (MOSAIC + "3f01000000 0000") + 36 * (MOSAIC + "0002000000 0000")),
+        ("g", SHOWN, None, "00" + SHOWN_CELLS),
+        # A code less than a page has.
+        ("g", 959 * "20", None, "19" + 960 * (LETTER + 7 * "00")),
         ("x", "", None, "ff"),
     ],
     "replay": [

@@ -23,9 +23,10 @@ import sys
 # {block} is the code 7F. Rows are filled up with spaces to 40 cells.
 
 TEXTS = {
-    # Page 100. Row 10 is what a reader copies on to a payment slip.
+    # Page 100. Row 1 is a double-height headline, and takes row 2. Row 10 is
+    # what a reader copies on to a payment slip.
     "appeal": {
-        1: "{yellow}LANTERN MOSS OTTER TRUST",
+        1: "{yellow}{double}LANTERN MOSS OTTER TRUST",
         3: "{white}An invented charity in an example.",
         5: "The otters of Lantern Moss need a new",
         6: "holt before winter. A plank costs two",
@@ -82,7 +83,8 @@ TEXTS = {
             "{mosaic blue}{separated}{block}{white}Held, then blank",
         11: "{cyan}What swims, whistles and digs holts?",
         12: "{white}Answer:{conceal}AN OTTER{white}(press reveal)",
-        13: "{green}The blot {block} is code 7F",
+        # Double from the second word on: row 14 is hidden where this is sent.
+        13: "{green}The{double}blot {block} is code 7F",
         14: "Readers 4, puzzle 2",
         16: "{flash}Next puzzle at 12:30{steady}or so",
         25: "Row 25 is not for the page",
@@ -244,7 +246,7 @@ LOST = """
 
 COLOURS = ["red", "green", "yellow", "blue", "magenta", "cyan", "white"]
 
-CODES = {"flash": 0x08, "steady": 0x09, "conceal": 0x18, "separated": 0x1A,
+CODES = {"flash": 0x08, "steady": 0x09, "double": 0x0D, "conceal": 0x18, "separated": 0x1A,
          "new background": 0x1D, "hold": 0x1E, "release": 0x1F, "block": 0x7F}
 for number, colour in enumerate(COLOURS, start=1):
     CODES[colour] = number

@@ -12,7 +12,7 @@ use Rattle.page.specs.Reading.{pageRead}
 use Rattle.page.specs.Records.{recordLength}
 use Rattle.page.specs.declared.Page.{Page}
 use Rattle.printing.specs.Pages.{lineFeed, pageSize, pageText}
-use Rattle.printing.proofs.Pages.{page-length}
+use Rattle.printing.proofs.Pages.{page-most}
 use Rattle.watch.specs.declared.Word.{Word}
 use Rattle.watch.specs.declared.Word.the-variants as word
 use Rattle.announcing.specs.Private.{cellsSaid}
@@ -54,7 +54,7 @@ module _ (page : Page) where
   cells-length : length (cellsSaid (page .cells)) ≤ leftOutSize + pageSize
   cells-length =
       let rows-out = left-out-length (page .cells .marks) in
-      let text = page-length (freshCharacters (page .cells)) in
+      let text = page-most (freshCharacters (page .cells)) in
       let both = length-append (leftOutText (page .cells .marks)) (pageText (freshCharacters (page .cells))) in
       omega arith
 

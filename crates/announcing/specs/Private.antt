@@ -7,7 +7,8 @@ use lib.ListN.{length, take, drop}
 use Rattle.grid.specs.Grid.{cellCount}
 use Rattle.packet.specs.Lines.{lineLength}
 use Rattle.page.specs.declared.Cells.{Cells}
-use Rattle.printing.specs.Pages.{isPage, pageText}
+use Rattle.display.specs.Pages.{isPage}
+use Rattle.printing.specs.Pages.{pageText}
 use Rattle.receiver.specs.Recordings.{Playing, played}
 use Rattle.watch.specs.Watched.{recordingWatched}
 use Rattle.watch.specs.declared.Watched.{Watched}

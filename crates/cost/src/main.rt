@@ -6,10 +6,10 @@ ghost use Prim.Native.Nat.{_*_};
 ghost use lib.ListN.{length};
 ghost use Rattle.packet.specs.Lines.{lineLength};
 use display::Cell;
+use display::Height;
 use display::Symbol;
 use field::Found;
 use grid::CELLS;
-use grid::COLUMNS;
 use packet::LINE_LENGTH;
 use page::Page;
 use page::RECORD_LENGTH;
@@ -226,29 +226,38 @@ fn pages_read(record: &[u8], count: usize) -> u8 {
     sum
 }
 
+fn height_number(height: Height) -> u8 {
+    match height {
+        Height::Normal => 0,
+        Height::Upper => 1,
+        Height::Lower => 2,
+    }
+}
+
 fn cell_sum(cell: Cell) -> u8 {
     let symbol = cell.symbol;
     let shown = match symbol {
         Symbol::Letter(code) => code,
         Symbol::Mosaic { pattern, separated } => pattern ^ separated as u8,
     };
+    let height = cell.height;
     shown
         ^ cell.foreground
         ^ cell.background
         ^ cell.flash as u8
         ^ cell.conceal as u8
         ^ cell.boxed as u8
-        ^ cell.double as u8
+        ^ height_number(height)
 }
 
-// Work g: a row is shown.
-fn rows_shown(codes: &[u8], count: usize) -> u8 {
+// Work g: a page is shown.
+fn pages_shown(codes: &[u8], count: usize) -> u8 {
     let mut sum: u8 = 0;
     let mut turn = 0;
     while turn < count {
-        let row = display::row_of(codes);
-        let cells = row.cells;
-        let cell = cells[turn % COLUMNS];
+        let page = display::page_of(codes);
+        let cells = page.cells;
+        let cell = cells[turn % CELLS];
         sum = sum ^ cell_sum(cell);
         turn += 1;
     }
@@ -260,7 +269,7 @@ fn done(work: u8, input: &[u8], count: usize) -> u8 {
         b'f' => fields_searched(input, count),
         b'w' => page_written(input, count),
         b'd' => pages_read(input, count),
-        b'g' => rows_shown(input, count),
+        b'g' => pages_shown(input, count),
         _ => lines_taken(work, input, count),
     }
 }

@@ -1,4 +1,4 @@
-// Answers cases of bytes, data-lines, packets, data fields and rows of codes by the library, for its answers to be held to those of others (tests/model/FORMAT.md).
+// Answers cases of bytes, data-lines, packets, data fields and pages of codes by the library, for its answers to be held to those of others (tests/model/FORMAT.md).
 mod coded;
 mod shown;
 mod units;
@@ -13,7 +13,7 @@ fn answer(sort: u8, input: &[u8]) {
         b'a' => coded::answer_packet(input),
         b'f' => units::answer_search(input),
         b'u' => units::answer_unit(input),
-        b'g' => shown::answer_row(input),
+        b'g' => shown::answer_page(input),
         _ => cases::put_byte(UNKNOWN),
     }
 }

@@ -1,8 +1,9 @@
-// Sort g: what the cells of a row show.
+// Sort g: what the cells of a page show.
 use display::Cell;
-use display::RowAnswer;
+use display::DisplayAnswer;
+use display::Height;
 use display::Symbol;
-use grid::COLUMNS;
+use grid::CELLS;
 
 fn kind_of(symbol: Symbol) -> u8 {
     match symbol {
@@ -24,8 +25,17 @@ fn value_of(symbol: Symbol) -> u8 {
     }
 }
 
+fn height_number(height: Height) -> u8 {
+    match height {
+        Height::Normal => 0,
+        Height::Upper => 1,
+        Height::Lower => 2,
+    }
+}
+
 fn put_cell(cell: Cell) {
     let symbol = cell.symbol;
+    let height = cell.height;
     let bytes = [
         kind_of(symbol),
         value_of(symbol),
@@ -34,31 +44,31 @@ fn put_cell(cell: Cell) {
         cell.flash as u8,
         cell.conceal as u8,
         cell.boxed as u8,
-        cell.double as u8,
+        height_number(height),
     ];
     cases::put(&bytes);
 }
 
-fn put_cells(cells: [Cell; COLUMNS]) {
-    let mut column = 0;
-    while column < COLUMNS {
-        let cell = cells[column];
+fn put_cells(cells: [Cell; CELLS]) {
+    let mut place = 0;
+    while place < CELLS {
+        let cell = cells[place];
         put_cell(cell);
-        column += 1;
+        place += 1;
     }
 }
 
-fn put_answer(answer: RowAnswer) {
+fn put_answer(answer: DisplayAnswer) {
     match answer {
-        RowAnswer::Shown => cases::put_byte(0),
-        RowAnswer::Refused => cases::put_byte(25),
+        DisplayAnswer::Shown => cases::put_byte(0),
+        DisplayAnswer::Refused => cases::put_byte(25),
     }
 }
 
-pub(crate) fn answer_row(codes: &[u8]) {
-    let row = display::row_of(codes);
-    let answer = row.answer;
+pub(crate) fn answer_page(codes: &[u8]) {
+    let page = display::page_of(codes);
+    let answer = page.answer;
     put_answer(answer);
-    let cells = row.cells;
+    let cells = page.cells;
     put_cells(cells);
 }

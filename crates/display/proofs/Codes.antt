@@ -10,6 +10,7 @@ use Rattle.laws.specs.Below.{allBelow}
 use Rattle.laws.proofs.Below.{at}
 use Rattle.display.specs.Display.{ownCell, shownControl, shown, givesPattern, mosaic, cell, lettersColour, mosaicsColour, afterCell, cellAt, next}
 use Rattle.display.specs.Private.{passed, actsAtOnce}
+use Rattle.display.specs.declared.Cell.{Cell}
 use Rattle.display.specs.declared.Symbol.{Symbol}
 use Rattle.display.specs.declared.Symbol.the-variants.{Letter}
 use Rattle.display.specs.declared.state.RowState.{RowState}
@@ -93,22 +94,20 @@ module _ (state : RowState) (code : ℕ) (low : code < 0x20) where
     not-late : (test : ℕ → Bool) → T (allBelow 0x20 (λ k. not (actsAtOnce k && test k))) → test code ≡ false
     not-late test tried = apart (actsAtOnce code) (test code) (at 0x20 (λ k. not (actsAtOnce k && test k)) tried code low) once
 
-    once-after : afterCell state code ≡ passed state (state .held) code
+    pub once-after : afterCell state code ≡ passed state (state .held) code
     unfolding allBelow actsAtOnce lettersColour mosaicsColour
     once-after =
         quiet-after state code (not-late lettersColour tt) (not-late mosaicsColour tt)
         (not-late (λ k. eqb k 0x08) tt) (not-late (λ k. eqb k 0x0D) tt) (not-late (λ k. eqb k 0x1F) tt)
         ∙ rw control-gives
 
-module _ (state : RowState) (code : ℕ) (low : code < 0x20) where
-  pub once-next : actsAtOnce code ≡ true → passed (ownCell state code) (ownCell state code .held) code ≡ next state code
-  once-next once = sym (once-after (ownCell state code) code low once) ∙ next-is state code
+-- the cell of a control code and the state after it, made by the parts of its step
+module _ (state : RowState) {code : ℕ} (low : code < 0x20) {own : RowState} (owned : own ≡ ownCell state code) where
+  pub control-cell : {symbol : Symbol} {made : Cell} → symbol ≡ shownControl own → made ≡ cell own symbol → made ≡ cellAt state code
+  control-cell shows made = made ∙ rw (shows, owned, ← control-shown (ownCell state code) code low) (cellAt-is state code)
 
-  pub late-cell : actsAtOnce code ≡ false → cell state (shownControl state) ≡ cellAt state code
-  late-cell late = rw (← cellAt-is state code, late-own state code late, control-shown state code low)
-
-  pub late-next : actsAtOnce code ≡ false → afterCell state code ≡ next state code
-  late-next late = rw (← next-is state code, late-own state code late)
+  pub control-next : {after : RowState} → after ≡ afterCell own code → after ≡ next state code
+  control-next made = made ∙ rw owned (next-is state code)
 
 -- 00, 0E, 0F, 10, 1B change nothing
 abbrev pub Idle : RowState → ℕ → Type 0

@@ -1,9 +1,14 @@
 pub mod Choice
 pub mod Codes
+pub mod Each
+pub mod Firsts
+pub mod Halves
 pub mod Held
 pub mod Marked
+pub mod Pages
 pub mod Readings
 pub mod Rows
 pub mod Small
 pub mod Steps
 pub mod Unique
+pub mod Walks

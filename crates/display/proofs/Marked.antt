@@ -1,4 +1,4 @@
--- The marked cases 9 to 12 of document 01, computed. A row's first cells depend on its first codes alone (`Rows`), so that each holds of every row that
+-- The marked cases 9 to 12 of document 01, computed. A row's first cells depend on its first codes alone, and none of these is 0D (`Firsts`), so that each holds of every row that
 -- starts with these codes.
 use mathlib.Core.Path.{_≡_, refl}
 use mathlib.Core.Bool.{Bool, true, false}

@@ -1,10 +1,14 @@
--- Worked rows where document 01 could be read in more than one way, computed: each shows which reading the definitions have.
+-- Worked rows where the papers could be read in more than one way, computed: each shows which reading the definitions have.
 use mathlib.Core.Path.{_≡_, refl}
-use mathlib.Core.Bool.{true, false}
-use mathlib.Core.List.{List, [], _∷_, map}
+use mathlib.Core.Bool.{Bool, true, false}
+use mathlib.Core.List.{List, [], _∷_, _++_, map}
 use Prim.Native.Nat.{ℕ}
+use lib.ListN.{replicate}
 use Rattle.display.specs.Display.{space, blank, start, along}
+use Rattle.display.specs.Pages.{alone, doubled, under}
 use Rattle.display.specs.declared.Cell.{Cell}
+use Rattle.display.specs.declared.Height.{Height}
+use Rattle.display.specs.declared.Height.the-variants.{Normal, Upper, Lower}
 use Rattle.display.specs.declared.Symbol.{Symbol}
 use Rattle.display.specs.declared.Symbol.the-variants.{Letter, Mosaic}
 use Rattle.display.proofs.Marked.{inColour}
@@ -56,3 +60,59 @@ pub split-pair : map (λ (cell : Cell). cell .boxed) (along start (0x0B ∷ 0x41
     ≡ false ∷ false ∷ false ∷ true ∷ true ∷ true ∷ true ∷ false ∷ []
 unfolding along start
 split-pair = refl
+
+-- ---- double height
+
+abbrev sizes : List Cell → List (Symbol × Height)
+sizes cells = map (λ (cell : Cell). (cell .symbol, cell .height)) cells
+
+-- 0D's own cell is still normal, 0C's own cell is normal again
+pub upper-halves : sizes (along start (0x41 ∷ 0x0D ∷ 0x42 ∷ 0x0C ∷ 0x43 ∷ []))
+    ≡ (Letter 0x41, Normal) ∷ (space, Normal) ∷ (Letter 0x42, Upper) ∷ (space, Normal) ∷ (Letter 0x43, Normal) ∷ []
+unfolding along start
+upper-halves = refl
+
+-- below them: the lower half, and spaces
+pub lower-halves : sizes (map under (along start (0x41 ∷ 0x0D ∷ 0x42 ∷ 0x0C ∷ 0x43 ∷ [])))
+    ≡ (space, Normal) ∷ (space, Normal) ∷ (Letter 0x42, Lower) ∷ (space, Normal) ∷ (space, Normal) ∷ []
+unfolding under along start
+lower-halves = refl
+
+abbrev onGround : Cell → Symbol × ℕ × Bool × Bool
+onGround cell = (cell .symbol, cell .background, cell .conceal, cell .boxed)
+
+-- the space below a cell that is not double is on that cell's background, and concealed and boxed as it is
+pub below-on-red : map onGround (map under (along start (0x01 ∷ 0x1D ∷ 0x18 ∷ 0x0B ∷ 0x0B ∷ 0x41 ∷ [])))
+    ≡ (space, 0, false, false)
+    ∷ (space, 1, false, false)
+    ∷ (space, 1, true, false)
+    ∷ (space, 1, true, false)
+    ∷ (space, 1, true, true)
+    ∷ (space, 1, true, true)
+    ∷ []
+unfolding under along start
+below-on-red = refl
+
+-- where 0D does not count it is like 00: no size changes, and what is held stays, as it does not where 0D counts
+pub held-past-0D : map (λ (cell : Cell). cell .symbol) (alone false (0x11 ∷ 0x1E ∷ 0x7F ∷ 0x0D ∷ 0x00 ∷ 0x41 ∷ [])) ≡ space ∷ blank ∷ full ∷ full ∷ full ∷ Letter 0x41 ∷ []
+unfolding alone
+held-past-0D = refl
+
+abbrev doubledFirst : List ℕ → List Bool
+doubledFirst codes = map (doubled codes) (0 ∷ 1 ∷ 2 ∷ 3 ∷ 4 ∷ [])
+
+-- 0D in the last column of five rows running: row 0 takes none, row 1 takes row 2, which is not asked, and row 3 takes row 4
+abbrev lastColumn : List ℕ
+lastColumn = replicate 39 0x20 ++ (0x0D ∷ [])
+
+pub five-running : doubledFirst (lastColumn ++ (lastColumn ++ (lastColumn ++ (lastColumn ++ lastColumn)))) ≡ false ∷ true ∷ false ∷ true ∷ false ∷ []
+unfolding doubled
+five-running = refl
+
+-- a 0D on row 1 that is undone at once takes the row below all the same
+abbrev undoneOnRow1 : List ℕ
+undoneOnRow1 = replicate 40 0x20 ++ (0x0D ∷ 0x0C ∷ [])
+
+pub undone : doubledFirst undoneOnRow1 ≡ false ∷ true ∷ false ∷ false ∷ false ∷ []
+unfolding doubled
+undone = refl

@@ -1,95 +1,114 @@
--- Laws of a whole row: when it is shown and when it is refused, that it has always 40 cells, that its first cells depend on its first codes alone, and
--- that a row of spaces is blank.
+-- The rows of a page: each has 40 cells, one after the other they are the page, and which of them are worked out alone.
 use mathlib.Core.Path.{_≡_, refl, _∙_, sym, ap}
-use mathlib.Core.Bool.{Bool, true, false, cond}
-use mathlib.Core.List.{List, [], _∷_, _++_, append-nil}
-use Prim.Native.Nat.{ℕ, zero, suc, _<_, _≤_}
+use mathlib.Core.Bool.{Bool, true, false, not, _&&_}
+use mathlib.Core.List.{List, _++_, map}
+use Prim.Native.Nat.{ℕ, zero, suc, _+_, _*_, _<_, _≤_}
 use native.Mathlib.Omega.{arith}
-use borrow.Author.Tests.{eq-eqb, le-leb}
-use lib.ListN.{length, getD, take, drop, replicate}
-use lib.Seq.{take-all}
-use Rattle.laws.specs.Paper.{accepted, refusedBy}
-use Rattle.grid.specs.Grid.{columns}
-use Rattle.display.specs.Display.{space, white, black, start, cellAt, next, along, allCodes, isRow, zeroCells, displayed, rowAnswerPaper}
-use Rattle.display.specs.Private.{answerIf}
+use borrow.Author.Tests.{ltb-true, ltb-false}
+use lib.Dec.{ltb}
+use lib.ListN.{length, getD, length-append, length-map, List·getD-append}
+use lib.Seq.{getD-append-add}
+use Rattle.laws.proofs.Keeps.{either}
+use Rattle.laws.proofs.Lists.{length-part}
+use Rattle.grid.specs.Grid.{cellCount, columns, rows}
+use Rattle.display.specs.Display.{along, start}
+use Rattle.display.specs.Pages.{alone, doubled, hasDouble, mayDouble, pageCells, readAs, rowAlone, rowCodes, rowShown, rowsShown, under}
 use Rattle.display.specs.declared.Cell.{Cell}
-use Rattle.display.specs.declared.state.RowState.{RowState}
-use Rattle.display.proofs.Steps.{along-none, along-cons, codes-none, codes-cons, row-length, zeros-length}
+use Rattle.display.proofs.Steps.{along-length}
 
--- 40 codes of 00 to 7F are shown
-pub shown-row : (codes : List ℕ) → isRow codes ≡ true → displayed codes ≡ record { answer = accepted []; cells = along start codes }
-unfolding displayed
-shown-row codes e = rw e
+-- ---- which rows lie below a doubled one
 
--- all else is refused by 25, with cells that are all zeros
-pub refused-row : (codes : List ℕ) → isRow codes ≡ false → displayed codes ≡ record { answer = refusedBy 25 []; cells = zeroCells }
-unfolding displayed
-refused-row codes e = rw e
+abbrev pub belowDoubled : List ℕ → ℕ → Bool
+belowDoubled codes zero = false
+belowDoubled codes (suc above) = doubled codes above
 
-all-codes : (codes : List ℕ) → ((i : ℕ) → i < length codes → getD codes i 0 ≤ 0x7F) → allCodes codes ≡ true
-all-codes [] h = codes-none
-all-codes (code ∷ codes) h =
-    rw (codes-cons code codes, le-leb code 0x7F (h 0 (omega arith))) (all-codes codes (λ i k. h (suc i) (omega arith)))
+-- a row is doubled where 0D counts on it, it lies below no doubled one, and it has a 0D code
+pub doubled-is : (codes : List ℕ) (row : ℕ) → mayDouble row && (not (belowDoubled codes row) && hasDouble (rowCodes codes row)) ≡ doubled codes row
+unfolding doubled mayDouble
+doubled-is codes zero = refl
+doubled-is codes (suc above) = refl
 
--- 40 codes, each of 00 to 7F, are a row
-pub a-row : (codes : List ℕ) → length codes ≡ columns → ((i : ℕ) → i < length codes → getD codes i 0 ≤ 0x7F) → isRow codes ≡ true
-unfolding isRow
-a-row codes e h = rw (eq-eqb (length codes) columns e) (all-codes codes h)
+-- a row that lies below none is what its codes alone give
+pub shown-alone : (codes : List ℕ) (row : ℕ) → belowDoubled codes row ≡ false → rowShown codes row ≡ rowAlone codes row
+unfolding rowShown
+shown-alone codes zero e = refl
+shown-alone codes (suc above) e = rw e
 
--- a cell for each code
-pub along-length : (state : RowState) (codes : List ℕ) → length (along state codes) ≡ length codes
-along-length state [] = ap length (along-none state)
-along-length state (code ∷ codes) = ap length (along-cons state code codes) ∙ ap suc (along-length (next state code) codes)
+-- a row that lies below one is made from the cells above it
+pub shown-under : (codes : List ℕ) (above : ℕ) → doubled codes above ≡ true → rowShown codes (suc above) ≡ map under (rowAlone codes above)
+unfolding rowShown
+shown-under codes above e = rw e
 
-forty : (codes : List ℕ) (row : Bool) → isRow codes ≡ row → length (displayed codes .cells) ≡ columns
-forty codes true e = rw (shown-row codes e) (along-length start codes ∙ row-length codes e)
-forty codes false e = rw (refused-row codes e) zeros-length
+-- a doubled row does not lie below one
+free : (may below has : Bool) → may && (not below && has) ≡ true → below ≡ false
+free true true has e = sym e
+free true false has e = refl
+free false true has e = sym e
+free false false has e = refl
 
--- the row has always 40 cells, shown or refused
-pub always-forty : (codes : List ℕ) → length (displayed codes .cells) ≡ columns
-always-forty codes = forty codes (isRow codes) refl
+pub doubled-free : (codes : List ℕ) (row : ℕ) → doubled codes row ≡ true → belowDoubled codes row ≡ false
+doubled-free codes row e = free (mayDouble row) (belowDoubled codes row) (hasDouble (rowCodes codes row)) (doubled-is codes row ∙ e)
 
--- the answer and the cells by whether the row is shown: all codes' cells, or zeros from the first cell on
-pub displayed-if : (codes : List ℕ) (shown : Bool) → isRow codes ≡ shown
-    → record { answer = rowAnswerPaper (answerIf shown); cells = take (cond shown columns 0) (along start codes) ++ drop (cond shown columns 0) zeroCells }
-    ≡ displayed codes
-unfolding rowAnswerPaper zeroCells
-displayed-if codes true e =
-    rw (shown-row codes e, take-all columns (along start codes) (rw (along-length, row-length codes e) (omega arith)), append-nil)
-displayed-if codes false e = rw (refused-row codes e)
+-- ---- a row has 40 cells, and the rows are the page
 
--- the first n cells are those of the first n codes, whatever comes after them
-pub first-cells : (n : ℕ) (state : RowState) (codes : List ℕ) → take n (along state codes) ≡ along state (take n codes)
-first-cells zero state codes = sym (along-none state)
-first-cells (suc n) state [] = ap (take (suc n)) (along-none state) ∙ sym (along-none state)
-first-cells (suc n) state (code ∷ codes) =
-    ap (take (suc n)) (along-cons state code codes)
-    ∙ (ap (λ (cells : List Cell). cellAt state code ∷ cells) (first-cells n (next state code) codes) ∙ sym (along-cons state code (take n codes)))
+pub alone-is : (codes : List ℕ) (row : ℕ) → rowAlone codes row ≡ along start (map (readAs (mayDouble row)) (rowCodes codes row))
+unfolding rowAlone alone
+alone-is codes row = refl
 
-module _ (n : ℕ) (codes : List ℕ) (row : isRow codes ≡ true) where
-  -- so a row that starts with some codes shows their cells
-  pub first-shown : take n (displayed codes .cells) ≡ along start (take n codes)
-  first-shown = rw (shown-row codes row) (first-cells n start codes)
+module _ (codes : List ℕ) (full : length codes ≡ cellCount) where
+  pub codes-forty : (row : ℕ) → row < rows → length (rowCodes codes row) ≡ columns
+  unfolding rowCodes
+  codes-forty row h = length-part codes (columns * row) columns (omega arith)
 
-  -- and two rows with the same first codes have the same first cells
-  pub first-alone : (codes′ : List ℕ) → isRow codes′ ≡ true → take n codes ≡ take n codes′
-      → take n (displayed codes .cells) ≡ take n (displayed codes′ .cells)
-  first-alone codes′ row′ e = first-shown ∙ (ap (along start) e ∙ sym (rw (shown-row codes′ row′) (first-cells n start codes′)))
+  pub alone-forty : (row : ℕ) → row < rows → length (rowAlone codes row) ≡ columns
+  alone-forty row h =
+      ap length (alone-is codes row)
+      ∙ (along-length start (map (readAs (mayDouble row)) (rowCodes codes row)) ∙ (length-map (rowCodes codes row) (readAs (mayDouble row)) ∙ codes-forty row h))
 
--- ---- a row of spaces is spaces, white on black
+  pub shown-forty : (row : ℕ) → row < rows → length (rowShown codes row) ≡ columns
+  unfolding rowShown
+  shown-forty zero h = alone-forty 0 h
+  shown-forty (suc above) h =
+      let here : above < rows = omega arith in
+      either (λ (cells : List Cell). length cells ≡ columns) (doubled codes above) (map under (rowAlone codes above)) (rowAlone codes (suc above))
+      (length-map (rowAlone codes above) under ∙ alone-forty above here) (alone-forty (suc above) h)
 
-abbrev blankCell : Cell
-blankCell =
-    record {
-      symbol = space;
-      foreground = white;
-      background = black;
-      flash = false;
-      conceal = false;
-      boxed = false;
-      double = false;
-    }
+  rows-length : (count : ℕ) → count ≤ rows → length (rowsShown codes count) ≡ columns * count
+  unfolding rowsShown
+  rows-length zero h = refl
+  rows-length (suc row) h =
+      let before = rows-length row (omega arith) in
+      let last = shown-forty row (omega arith) in
+      length-append (rowsShown codes row) (rowShown codes row)
+      ∙ (let e : length (rowsShown codes row) + length (rowShown codes row) ≡ columns * suc row = omega arith in e)
 
-pub spaces : displayed (replicate columns 0x20) ≡ record { answer = accepted []; cells = replicate columns blankCell }
-unfolding displayed
-spaces = refl
+  pub page-length : length (pageCells codes) ≡ cellCount
+  unfolding pageCells
+  page-length = rows-length rows (omega arith)
+
+  -- a cell of the first so many rows: of one before the last, or of the last
+  module _ (column : ℕ) (inside : column < columns) (d : Cell) where
+    AtCell : ℕ → ℕ → Type 0
+    AtCell count row = getD (rowsShown codes count) (columns * row + column) d ≡ getD (rowShown codes row) column d
+
+    one-row-more : (count row : ℕ) (b : Bool) → ltb row count ≡ b → count < rows → row < suc count → (row < count → AtCell count row) → AtCell (suc count) row
+    unfolding AtCell rowsShown
+    one-row-more count row true e k h before =
+        let less = ltb-true row count e in
+        let long = rows-length count (omega arith) in
+        List·getD-append (rowsShown codes count) (rowShown codes count) d (columns * row + column) (omega arith) ∙ before less
+    one-row-more count row false e k h before =
+        let same : row ≡ count = (let least = ltb-false row count e in omega arith) in
+        let long = rows-length count (omega arith) in
+        let place : columns * row + column ≡ length (rowsShown codes count) + column = omega arith in
+        ap (λ (n : ℕ). getD (rowsShown codes count ++ rowShown codes count) n d) place
+        ∙ (getD-append-add (rowsShown codes count) (rowShown codes count) column d ∙ ap (λ (n : ℕ). getD (rowShown codes n) column d) (sym same))
+
+    at-cell : (count row : ℕ) → count ≤ rows → row < count → AtCell count row
+    at-cell zero row k h = absurd (omega arith)
+    at-cell (suc count) row k h = one-row-more count row (ltb row count) refl (omega arith) h (λ less. at-cell count row (omega arith) less)
+
+    -- the page's cell in a row and a column
+    pub cell-at : (row : ℕ) → row < rows → getD (pageCells codes) (columns * row + column) d ≡ getD (rowShown codes row) column d
+    unfolding AtCell pageCells
+    cell-at row h = at-cell rows row (omega arith) h

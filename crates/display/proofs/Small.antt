@@ -1,4 +1,4 @@
--- What a cell can hold: colours of 0 to 7, patterns of six bits, letters of 00 to 7F. It holds of every row's cells, shown or refused.
+-- What a cell can hold: colours of 0 to 7, patterns of six bits, letters of 00 to 7F. It holds of every page's cells, shown or refused.
 use mathlib.Core.Path.{_≡_, refl, sym, _∙_}
 use mathlib.Core.Bool.{Bool, true, false, cond, _&&_}
 use mathlib.Core.List.{List, [], _∷_}
@@ -9,15 +9,17 @@ use lib.Dec.{eqb, leb, ltb, lit<, lit≤}
 use lib.ListN.{replicate}
 use Rattle.laws.proofs.Bools.{both-true}
 use Rattle.laws.proofs.Keeps.{either}
-use Rattle.grid.specs.Grid.{columns}
+use Rattle.grid.specs.Grid.{cellCount}
 use Rattle.display.specs.Display.{blank, start, endsDouble, ownCell, pattern, givesPattern, mosaic, shownControl, shown, cell}
-use Rattle.display.specs.Display.{colour, changesAfter, afterCell, cellAt, next, along, allCodes, isRow, zeroCell, zeroCells, displayed}
+use Rattle.display.specs.Display.{colour, changesAfter, afterCell, cellAt, next, along, zeroCell}
+use Rattle.display.specs.Pages.{allCodes, displayed, isDouble, isPage, lowerHalf, spaceUnder, under, zeroCells}
 use Rattle.display.specs.declared.Cell.{Cell}
 use Rattle.display.specs.declared.Symbol.{Symbol}
 use Rattle.display.specs.declared.Symbol.the-variants.{Letter, Mosaic}
 use Rattle.display.specs.declared.state.RowState.{RowState}
-use Rattle.display.proofs.Steps.{along-none, along-cons, codes-cons, cellAt-is, next-is, row-is}
-use Rattle.display.proofs.Rows.{shown-row, refused-row}
+use Rattle.display.proofs.Each.{Each, page-has}
+use Rattle.display.proofs.Pages.{shown-page, refused-page}
+use Rattle.display.proofs.Steps.{along-none, along-cons, codes-cons, cellAt-is, next-is}
 
 abbrev pub SmallSymbol : Symbol → Type 0
 SmallSymbol (Letter code) = code ≤ 0x7F
@@ -27,10 +29,6 @@ pub record Small (cell : Cell) : Type 0 where
   pub symbol : SmallSymbol (cell .symbol)
   pub foreground : cell .foreground ≤ 7
   pub background : cell .background ≤ 7
-
-abbrev pub Each : List Cell → Type 0
-Each [] = Unit {0}
-Each (cell ∷ cells) = Small cell × Each cells
 
 -- the same of what goes from cell to cell
 record Kept (state : RowState) : Type 0 where
@@ -90,7 +88,7 @@ cellAt-small state code h k =
     let own = own-kept state code k in
     rw (← cellAt-is state code) (cell-small (ownCell state code) (shown (ownCell state code) code) (shown-small (ownCell state code) code h own) own)
 
-along-small : (state : RowState) (codes : List ℕ) → allCodes codes ≡ true → Kept state → Each (along state codes)
+along-small : (state : RowState) (codes : List ℕ) → allCodes codes ≡ true → Kept state → Each Small (along state codes)
 along-small state [] e k = rw (along-none state) tt
 along-small state (code ∷ codes) e k =
     let both = both-true (leb code 0x7F) (allCodes codes) (sym (codes-cons code codes) ∙ e) in
@@ -105,17 +103,25 @@ zero-small : Small zeroCell
 unfolding zeroCell
 zero-small = record { symbol = lit≤ tt; foreground = lit≤ tt; background = lit≤ tt }
 
-many : (n : ℕ) (cell : Cell) → Small cell → Each (replicate n cell)
+many : (n : ℕ) (cell : Cell) → Small cell → Each Small (replicate n cell)
 many zero cell s = tt
 many (suc n) cell s = (s, many n cell s)
 
-zeros-small : Each zeroCells
+zeros-small : Each Small zeroCells
 unfolding zeroCells
-zeros-small = many columns zeroCell zero-small
+zeros-small = many cellCount zeroCell zero-small
 
-small-if : (codes : List ℕ) (row : Bool) → isRow codes ≡ row → Each (displayed codes .cells)
-small-if codes true e = rw (shown-row codes e) (along-small start codes (row-is codes e .1) start-kept)
-small-if codes false e = rw (refused-row codes e) zeros-small
+-- what is under a small cell has its colours, and its symbol or a space
+under-small : (cell : Cell) → Small cell → Small (under cell)
+unfolding under
+under-small cell s =
+    either Small (isDouble (cell .height)) (lowerHalf cell) (spaceUnder cell)
+    (record { symbol = s .symbol; foreground = s .foreground; background = s .background })
+    (record { symbol = lit≤ tt; foreground = s .foreground; background = s .background })
 
-pub small : (codes : List ℕ) → Each (displayed codes .cells)
-small codes = small-if codes (isRow codes) refl
+small-if : (codes : List ℕ) (page : Bool) → isPage codes ≡ page → Each Small (displayed codes .cells)
+small-if codes true e = rw (shown-page codes e) (page-has Small (λ row all. along-small start row all start-kept) under-small codes e)
+small-if codes false e = rw (refused-page codes e) zeros-small
+
+pub small : (codes : List ℕ) → Each Small (displayed codes .cells)
+small codes = small-if codes (isPage codes) refl

@@ -1,19 +1,18 @@
 -- A row code by code: what one more code does to the definitions that go along the whole of it.
 use mathlib.Core.Path.{_≡_, refl, _∙_, sym, ap}
-use mathlib.Core.Bool.{Bool, true, false, not, cond, _&&_, _||_}
-use mathlib.Core.List.{List, [], _∷_, _++_, append-assoc}
-use Prim.Native.Nat.{ℕ, _+_, _<_, _≤_}
+use mathlib.Core.Bool.{Bool, true, false, not, _&&_, _||_, and-false}
+use mathlib.Core.List.{List, [], _∷_}
+use Prim.Native.Nat.{ℕ, suc, _+_, _<_, _≤_}
 use native.Mathlib.Numerals.{add-one}
 use native.Mathlib.Omega.{arith}
-use borrow.Author.Tests.{eqb-true}
+use borrow.Author.Tests.{ne-eqb}
 use lib.Dec.{eqb, leb, ltb}
-use lib.ListN.{length, getD, take, drop, set, take-append-drop}
-use lib.Seq.{drop-cons, take-suc-set, take-append-le, take-take, drop-drop, length-take-le}
-use Rattle.laws.proofs.Bools.{both-true}
+use lib.ListN.{length, getD, drop}
+use lib.Seq.{drop-cons}
+use Rattle.laws.proofs.Keeps.{either}
 use Rattle.laws.proofs.Opposite.{at-most-is}
-use Rattle.grid.specs.Grid.{columns}
-use Rattle.display.specs.Display.{ownCell, shown, cell, afterCell, cellAt, next, along, allCodes, isRow, zeroCells}
-use Rattle.display.specs.declared.Cell.{Cell}
+use Rattle.display.specs.Display.{ownCell, shown, cell, afterCell, cellAt, next, along}
+use Rattle.display.specs.Pages.{allCodes, doubleCode, hasDouble, readAs}
 use Rattle.display.specs.declared.state.RowState.{RowState}
 
 pub cellAt-is : (state : RowState) (code : ℕ) → cell (ownCell state code) (shown (ownCell state code) code) ≡ cellAt state code
@@ -57,40 +56,37 @@ pub along-from : (state : RowState) (codes : List ℕ) (i : ℕ) → i < length 
     → along state (drop i codes) ≡ cellAt state (getD codes i 0) ∷ along (next state (getD codes i 0)) (drop (i + 1) codes)
 along-from state codes i h = ap (along state) (drop-cons codes i 0 h) ∙ rw (along-cons, add-one)
 
--- cells that are filled up to a place, with what is left to work out: one more of them
-pub one-more : (cells : List Cell) (state : RowState) (codes : List ℕ) (i : ℕ) → i < length cells → i < length codes
-    → take (i + 1) (set cells i (cellAt state (getD codes i 0))) ++ along (next state (getD codes i 0)) (drop (i + 1) codes)
-    ≡ take i cells ++ along state (drop i codes)
-one-more cells state codes i h k =
-    rw (along-from state codes i k, add-one, take-suc-set, append-assoc)
+-- a cell for each code
+pub along-length : (state : RowState) (codes : List ℕ) → length (along state codes) ≡ length codes
+along-length state [] = ap length (along-none state)
+along-length state (code ∷ codes) = ap length (along-cons state code codes) ∙ ap suc (along-length (next state code) codes)
 
--- cells that are as others from a place on are so from the next place on
-pub one-less : (i : ℕ) (cells others : List Cell) → drop i cells ≡ drop i others → drop (i + 1) cells ≡ drop (i + 1) others
-one-less i cells others e = sym (drop-drop 1 i cells) ∙ (ap (drop 1) e ∙ drop-drop 1 i others)
+-- whether one of some codes is 0D, code by code
+pub double-none : hasDouble [] ≡ false
+unfolding hasDouble
+double-none = refl
 
--- cells that are filled up to a place, and that are as others from there on
-pub filled-to : (i : ℕ) (cells rest whole others : List Cell) → i ≤ length cells → take i cells ++ rest ≡ whole → drop i cells ≡ drop i others
-    → take i whole ++ drop i others ≡ cells
-filled-to i cells rest whole others h w e =
-    rw (← w, take-append-le i (take i cells) rest (rw (length-take-le i cells h) (omega arith)), take-take i i cells (omega arith), ← e)
-    (take-append-drop i cells)
+or-assoc : (a b c : Bool) → (a || b) || c ≡ a || (b || c)
+or-assoc true b c = refl
+or-assoc false b c = refl
 
--- a row has 40 codes, each of 00 to 7F
-pub row-is : (codes : List ℕ) → isRow codes ≡ true → (length codes ≡ columns) × (allCodes codes ≡ true)
-unfolding isRow
-row-is codes e =
-    let both = both-true (eqb (length codes) columns) (allCodes codes) e in
-    (eqb-true _ _ (both .0), both .1)
+pub double-from : (codes : List ℕ) (i : ℕ) → i < length codes → (found : Bool)
+    → (found || eqb (getD codes i 0) doubleCode) || hasDouble (drop (i + 1) codes) ≡ found || hasDouble (drop i codes)
+unfolding hasDouble
+double-from codes i h found =
+    let here : drop i codes ≡ getD codes i 0 ∷ drop (i + 1) codes = rw (add-one i) (drop-cons codes i 0 h) in
+    or-assoc found (eqb (getD codes i 0) doubleCode) (hasDouble (drop (i + 1) codes))
+    ∙ ap (λ (rest : List ℕ). found || hasDouble rest) (sym here)
 
-pub row-length : (codes : List ℕ) → isRow codes ≡ true → length codes ≡ columns
-row-length codes e = row-is codes e .0
+-- a control code is one as it is read
+pub read-control : (counts : Bool) {code : ℕ} → code < 0x20 → readAs counts code < 0x20
+unfolding readAs
+read-control counts {code} h = either (λ (n : ℕ). n < 0x20) (not counts && eqb code doubleCode) 0x00 code (omega arith) h
 
-pub zeros-length : length zeroCells ≡ columns
-unfolding zeroCells
-zeros-length = refl
+-- and a printed code is itself
+pub read-printed : (counts : Bool) {code : ℕ} → 0x20 ≤ code → readAs counts code ≡ code
+unfolding readAs
+read-printed counts {code} h = rw (ne-eqb code doubleCode (λ e. omega arith), and-false)
 
-module _ (codes : List ℕ) where
-  -- where a row is shown it has as many codes as are shown, and no more than 40 are
-  pub count-fits : (shown : Bool) → isRow codes ≡ shown → (cond shown columns 0 ≤ length codes) × (cond shown columns 0 ≤ columns)
-  count-fits true e = (rw (row-length codes e) (omega arith), omega arith)
-  count-fits false e = (omega arith, omega arith)
+pub low-as : {read code : ℕ} → read ≡ code → code < 0x20 → read < 0x20
+low-as e h = rw e h

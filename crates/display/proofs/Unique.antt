@@ -6,28 +6,29 @@ use Prim.Native.Nat.{ℕ}
 use lib.Dec.{eqb}
 use Rattle.laws.specs.Unique.{Unique}
 use Rattle.laws.proofs.Inverse.{told-apart}
-use Rattle.display.specs.Display.{Displayed, rowPaper}
-use Rattle.display.specs.declared.Row.{Row}
-use Rattle.display.specs.declared.RowAnswer.{RowAnswer}
-use Rattle.display.specs.declared.RowAnswer.the-variants.{Shown, Refused}
-use Rattle.display.proofs.row_of as row-of
-use Rattle.display.proofs.row_of.Reads as row-of-reads
+use Rattle.display.specs.Pages.{Displayed, displayedPaper}
+use Rattle.display.specs.declared.DisplayAnswer.{DisplayAnswer}
+use Rattle.display.specs.declared.DisplayAnswer.the-variants.{Shown, Refused}
+use Rattle.display.specs.declared.DisplayedPage.{DisplayedPage}
+use Rattle.display.proofs.page_of as page-of
+use Rattle.display.proofs.page_of.Reads as page-of-reads
 
 -- the answer and its cells, read back from the paper's number and the cells beside it
-abbrev answerBack : Option ℕ → RowAnswer
+abbrev pub answerBack : Option ℕ → DisplayAnswer
 answerBack none = Refused
 answerBack (some number) = cond (eqb number 0) Shown Refused
 
-abbrev rowBack : Displayed → Row
-rowBack shown = record { answer = answerBack (shown .answer .number); cells = shown .cells }
+abbrev pageBack : Displayed → DisplayedPage
+pageBack shown = record { answer = answerBack (shown .answer .number); cells = shown .cells }
 
-back-answer : (answer : RowAnswer) (row : Row) → row .answer ≡ answer → rowBack (rowPaper (record { answer = answer; cells = row .cells })) ≡ row
-unfolding rowPaper
-back-answer Shown row e = rw (← e)
-back-answer Refused row e = rw (← e)
+back-answer : (answer : DisplayAnswer) (page : DisplayedPage) → page .answer ≡ answer
+    → pageBack (displayedPaper (record { answer = answer; cells = page .cells })) ≡ page
+unfolding displayedPaper
+back-answer Shown page e = rw (← e)
+back-answer Refused page e = rw (← e)
 
-row-back : (row : Row) → rowBack (rowPaper row) ≡ row
-row-back row = back-answer (row .answer) row refl
+page-back : (page : DisplayedPage) → pageBack (displayedPaper page) ≡ page
+page-back page = back-answer (page .answer) page refl
 
-pub row-of-unique : Unique row-of.ended row-of-reads.Post
-row-of-unique κs a r r′ ws ws′ p q = (told-apart rowPaper rowBack row-back r r′ (p ∙ sym q), refl)
+pub page-of-unique : Unique page-of.ended page-of-reads.Post
+page-of-unique κs a r r′ ws ws′ p q = (told-apart displayedPaper pageBack page-back r r′ (p ∙ sym q), refl)

@@ -1,18 +1,13 @@
 -- Document 01, "Display cells", in its order: what a row starts with, what a code does at its own cell, what is shown, what a code does after its
--- cell, and the row, which is that step repeated. Codes are hexadecimal, patterns decimal.
+-- cell, and the row alone, which is that step repeated; `Pages` has the page. Codes are hexadecimal, patterns decimal.
 use mathlib.Core.Bool.{Bool, true, false, not, cond, _&&_, _||_}
 use mathlib.Core.List.{List, [], _∷_}
 use Prim.Native.Nat.{ℕ, _+_, _*_, _%_}
 use lib.Dec.{eqb, leb, ltb}
-use lib.ListN.{length, replicate}
 use Rattle.laws.specs.Digits.{bit}
-use Rattle.laws.specs.Every.{every}
-use Rattle.laws.specs.Paper.{Paper, accepted, refusedBy}
-use Rattle.grid.specs.Grid.{columns}
 use Rattle.display.specs.declared.Cell.{Cell}
-use Rattle.display.specs.declared.Row.{Row}
-use Rattle.display.specs.declared.RowAnswer.{RowAnswer}
-use Rattle.display.specs.declared.RowAnswer.the-variants.{Shown, Refused}
+use Rattle.display.specs.declared.Height.{Height}
+use Rattle.display.specs.declared.Height.the-variants.{Normal, Upper}
 use Rattle.display.specs.declared.state.RowState.{RowState}
 use Rattle.display.specs.declared.Symbol.{Symbol}
 use Rattle.display.specs.declared.Symbol.the-variants.{Letter, Mosaic}
@@ -107,6 +102,10 @@ unfoldable pub shown : RowState → ℕ → Symbol
 unfolding givesPattern mosaic shownControl
 shown state code = cond (ltb code 0x20) (shownControl state) (cond (givesPattern state code) (mosaic state code) (Letter code))
 
+-- a double cell is the upper half, whose lower half the row below shows
+abbrev pub heightOf : Bool → Height
+heightOf double = cond double Upper Normal
+
 -- a cell shows a symbol; besides, foreground and background, flash, conceal, boxed, double
 unfoldable pub cell : RowState → Symbol → Cell
 cell state symbol =
@@ -117,7 +116,7 @@ cell state symbol =
       flash = state .flash;
       conceal = state .conceal;
       boxed = state .boxed;
-      double = state .double;
+      height = heightOf (state .double);
     }
 
 -- ---- after their cell
@@ -161,7 +160,7 @@ afterCell state code =
       before = code;
     }
 
--- ---- the row
+-- ---- the row alone
 
 -- effects at a code's own cell come before it is shown
 unfoldable pub cellAt : RowState → ℕ → Cell
@@ -178,19 +177,9 @@ unfolding cellAt next
 along state [] = []
 along state (code ∷ codes) = cellAt state code ∷ along (next state code) codes
 
--- ---- refusal 25, and the answer
+-- ---- the zero cell
 
--- codes of 00 to 7F
-unfoldable pub allCodes : List ℕ → Bool
-unfolding every
-allCodes codes = every (λ (code : ℕ). leb code 0x7F) codes
-
--- 40 codes of 00 to 7F
-unfoldable pub isRow : List ℕ → Bool
-unfolding allCodes
-isRow codes = eqb (length codes) columns && allCodes codes
-
--- a value due beside a refusal is all zeros: the letter 00 with every part 0 or false
+-- the letter 00 with every part 0 or false, and normal, for the place of cells that are not there
 unfoldable pub zeroCell : Cell
 zeroCell =
     record {
@@ -200,32 +189,5 @@ zeroCell =
       flash = false;
       conceal = false;
       boxed = false;
-      double = false;
+      height = Normal;
     }
-
-unfoldable pub zeroCells : List Cell
-unfolding zeroCell
-zeroCells = replicate columns zeroCell
-
--- the paper's answer, and the cells beside it
-pub record Displayed : Type 0 where
-  pub answer : Paper
-  pub cells : List Cell
-
--- a row that is not 40 codes of 00 to 7F is refused by 25; else rows are worked out each alone, from the start
-unfoldable pub displayed : List ℕ → Displayed
-unfolding isRow along start zeroCells accepted refusedBy
-displayed codes =
-    cond (isRow codes)
-    (record { answer = accepted []; cells = along start codes })
-    (record { answer = refusedBy 25 []; cells = zeroCells })
-
--- the paper's number and values of the answer: shown has no value but the cells beside it
-unfoldable pub rowAnswerPaper : RowAnswer → Paper
-unfolding accepted refusedBy
-rowAnswerPaper Shown = accepted []
-rowAnswerPaper Refused = refusedBy 25 []
-
-unfoldable pub rowPaper : Row → Displayed
-unfolding rowAnswerPaper
-rowPaper row = record { answer = rowAnswerPaper (row .answer); cells = row .cells }

@@ -1,24 +1,34 @@
-// Display cells: what each of a row's 40 cells shows, worked out from the row's codes alone.
+// Display cells: what each of a page's 960 cells shows, worked out from the page's codes.
+mod doubling;
 mod state;
 
 ghost use mathlib.Core.Path.{_≡_};
 ghost use mathlib.Core.Bool.{cond};
-ghost use mathlib.Core.List.{_++_};
-ghost use Prim.Native.Nat.{_≤_};
-ghost use lib.ListN.{length, take, drop};
-ghost use Rattle.grid.specs.Grid.{columns};
-ghost use Rattle.display.specs.Display.{start, along, isRow, zeroCells, displayed, rowPaper};
+ghost use Rattle.grid.specs.Grid.{cellCount};
+ghost use Rattle.display.specs.Pages.{displayed, displayedPaper, isPage, zeroCells};
 ghost use Rattle.display.specs.Private.{answerIf};
+use doubling::PageRow;
+use grid::CELLS;
 use grid::COLUMNS;
 use state::RowState;
 
 // The highest code.
 pub const LAST_CODE: u8 = 0x7F;
 
+// The first code that is no control code.
+const FIRST_PRINTED: u8 = 0x20;
+
 // What a cell shows: a letter with its code, or a mosaic with six bits, its cells contiguous or separated.
 pub enum Symbol {
     Letter(u8),
     Mosaic { pattern: u8, separated: bool },
+}
+
+// Whether a cell is of normal size, or the upper or the lower half of a double one.
+pub enum Height {
+    Normal,
+    Upper,
+    Lower,
 }
 
 // A symbol with its colours, 0 black to 7 white, and how it is shown.
@@ -29,41 +39,42 @@ pub struct Cell {
     pub flash: bool,
     pub conceal: bool,
     pub boxed: bool,
-    pub double: bool,
+    pub height: Height,
 }
 
-// Whether a row was shown, or refused because it is not 40 codes of 00 to 7F.
-pub enum RowAnswer {
+// Whether a page was shown, or refused because it is not 960 codes of 00 to 7F.
+pub enum DisplayAnswer {
     Shown,
     Refused,
 }
 
-// An answer and the cells beside it, which are all zeros where the row was refused.
-pub struct Row {
-    pub answer: RowAnswer,
-    pub cells: [Cell; COLUMNS],
+// An answer and the cells beside it, which are all zeros where the page was refused.
+pub struct DisplayedPage {
+    pub answer: DisplayAnswer,
+    pub cells: [Cell; CELLS],
 }
 
-// Whether these are 40 codes of 00 to 7F. Every code is asked, with no branch, which is cheaper than to stop at the first that is none.
-fn is_row(codes: &[u8]) -> bool
-    ensures { λ r. ⌜ r ≡ isRow (now (codes .entry)) ⌝ }
+// Whether these are 960 codes of 00 to 7F. Every code is asked, with no branch, which is cheaper than to stop at the first that is none.
+fn is_page(codes: &[u8]) -> bool
+    ensures { λ r. ⌜ r ≡ isPage (now (codes .entry)) ⌝ }
 {
-    if codes.len() != COLUMNS {
+    if codes.len() != CELLS {
         return false;
     }
     let mut high = false;
-    let mut column = 0;
-    while column < COLUMNS {
-        high = high | (codes[column] > LAST_CODE);
-        column += 1;
+    let mut place = 0;
+    while place < CELLS {
+        high = high | (codes[place] > LAST_CODE);
+        place += 1;
     }
     !high
 }
 
-fn zero_cells() -> [Cell; COLUMNS]
+fn zero_cells() -> [Cell; CELLS]
     ensures { λ r. ⌜ r ≡ zeroCells ⌝ }
 {
     let symbol = Symbol::Letter(0x00);
+    let height = Height::Normal;
     let zero = Cell {
         symbol,
         foreground: 0,
@@ -71,54 +82,73 @@ fn zero_cells() -> [Cell; COLUMNS]
         flash: false,
         conceal: false,
         boxed: false,
-        double: false,
+        height,
     };
-    [zero; COLUMNS]
+    [zero; CELLS]
 }
 
-// How many of a row's codes are shown: all, or none where it is refused.
+// How many of a page's codes are shown: all, or none where it is refused.
 fn count_if(shown: bool) -> usize
-    ensures { λ r. ⌜ r ≡ cond shown columns 0 ⌝ }
+    ensures { λ r. ⌜ r ≡ cond shown cellCount 0 ⌝ }
 {
-    if shown { COLUMNS } else { 0 }
+    if shown { CELLS } else { 0 }
 }
 
-fn answer_if(shown: bool) -> RowAnswer
+fn answer_if(shown: bool) -> DisplayAnswer
     ensures { λ r. ⌜ r ≡ answerIf shown ⌝ }
 {
     if shown {
-        RowAnswer::Shown
+        DisplayAnswer::Shown
     } else {
-        RowAnswer::Refused
+        DisplayAnswer::Refused
     }
 }
 
-// The cells of the first codes, one step for each, and zeros after them: so that one array serves a row that is shown and one that is refused, and is
-// not copied.
-fn cells_of(codes: &[u8], count: usize) -> [Cell; COLUMNS]
-    requires { ⌜ (count ≤ length (now codes)) × (count ≤ columns) ⌝ }
-    ensures { λ r. ⌜ r ≡ take count (along start (now (codes .entry))) ++ drop count zeroCells ⌝ }
+// The cells of a page that is shown, one step for each, and zeros for one that is not: so that one array serves both, is filled where it lies and is not
+// copied. A row below a doubled one is made from the cells above it. Control codes and printed ones go ways of their own, each with its own store, so that
+// little has to be moved where the ways meet.
+fn cells_of(codes: &[u8], shown: bool) -> [Cell; CELLS]
+    requires { ⌜ shown ≡ isPage (now codes) ⌝ }
+    ensures { λ r. ⌜ r ≡ displayed (now (codes .entry)) .cells ⌝ }
 {
+    let count = count_if(shown);
     let mut cells = zero_cells();
+    let mut row = PageRow::first();
     let mut state = RowState::start();
-    let mut column = 0;
-    while column < count {
-        let step = state.step(codes[column]);
-        let cell = step.cell;
-        cells[column] = cell;
-        let next = step.next;
-        state = next;
-        column += 1;
+    let mut place = 0;
+    while row.end <= count {
+        let code = codes[place];
+        if row.below {
+            let above = cells[place - COLUMNS];
+            cells[place] = doubling::under(above);
+        } else if code < FIRST_PRINTED {
+            let read = doubling::read_as(row.counts, code);
+            let own = state.own(read);
+            let symbol = own.shown_control();
+            cells[place] = own.cell(symbol);
+            state = own.after(read);
+        } else {
+            let step = state.printed(code);
+            let cell = step.cell;
+            cells[place] = cell;
+            let next = step.next;
+            state = next;
+        }
+        place += 1;
+        if place == row.end {
+            row = row.next(codes);
+            state = RowState::start();
+        }
     }
     cells
 }
 
-// The cells of a row. Each row is worked out alone: the grid of a page is 24 of these.
-pub fn row_of(codes: &[u8]) -> Row
-    ensures { λ r. ⌜ rowPaper r ≡ displayed (now (codes .entry)) ⌝ }
+// The cells of a page, in the order of its rows.
+pub fn page_of(codes: &[u8]) -> DisplayedPage
+    ensures { λ r. ⌜ displayedPaper r ≡ displayed (now (codes .entry)) ⌝ }
 {
-    let shown = is_row(codes);
-    let cells = cells_of(codes, count_if(shown));
+    let shown = is_page(codes);
+    let cells = cells_of(codes, shown);
     let answer = answer_if(shown);
-    Row { answer, cells }
+    DisplayedPage { answer, cells }
 }

@@ -1,12 +1,13 @@
-// The state along a row, and one step of it: effects at the code's own cell, what is shown, effects after the cell. Letters and mosaics, which most
-// codes are, have no effects and go a short way of their own. A control code has effects at its own cell or after it and never both, so that it goes one of
-// two ways; which effects it has there is chosen without a branch.
+// The state along a row, and the parts of one step of it: effects at the code's own cell, what is shown, effects after the cell. Letters and mosaics, which most
+// codes are, have no effects and go a short way of their own. A control code has effects at its own cell or after it and never both; which effects it has there is
+// chosen without a branch.
 ghost use mathlib.Core.Path.{_≡_};
 ghost use mathlib.Core.Bool.{cond};
 ghost use Prim.Native.Nat.{_<_, _≤_};
-ghost use Rattle.display.specs.Display.{start, blank, ownCell, pattern, givesPattern, mosaic, shownControl, cell, afterCell, cellAt, next};
+ghost use Rattle.display.specs.Display.{start, blank, ownCell, pattern, givesPattern, mosaic, shownControl, heightOf, cell, afterCell, cellAt, next};
 ghost use Rattle.display.specs.Private.{passed, actsAtOnce};
 use crate::Cell;
+use crate::Height;
 use crate::Symbol;
 
 // What holds from one cell to the next.
@@ -67,6 +68,17 @@ fn acts_at_once(code: u8) -> bool
     (0x09 <= code) & (code <= 0x0C) | (0x18 <= code) & (code <= 0x1E)
 }
 
+// A double cell is an upper half.
+fn height_of(double: bool) -> Height
+    ensures { λ r. ⌜ r ≡ heightOf double ⌝ }
+{
+    if double {
+        Height::Upper
+    } else {
+        Height::Normal
+    }
+}
+
 impl RowState {
     pub(crate) fn start() -> RowState
         ensures { λ r. ⌜ r ≡ start ⌝ }
@@ -113,11 +125,24 @@ impl RowState {
         }
     }
 
+    // Effects at a code's own cell, where it has any.
+    pub(crate) fn own(self, code: u8) -> RowState
+        ensures { λ r. ⌜ r ≡ ownCell self code ⌝ }
+    {
+        if acts_at_once(code) {
+            return self.own_cell(code);
+        }
+        self
+    }
+
     // Whether the code is a mosaic, and no letter, in this state.
     fn gives_pattern(self, code: u8) -> bool
         ensures { λ r. ⌜ r ≡ givesPattern self code ⌝ }
     {
-        self.mosaics & ((0x20 <= code) & (code <= 0x3F) | (0x60 <= code) & (code <= 0x7F))
+        if !self.mosaics {
+            return false;
+        }
+        (0x20 <= code) & (code <= 0x3F) | (0x60 <= code) & (code <= 0x7F)
     }
 
     fn mosaic(self, code: u8) -> Symbol
@@ -129,16 +154,17 @@ impl RowState {
     }
 
     // What a control code shows.
-    fn shown_control(self) -> Symbol
+    pub(crate) fn shown_control(self) -> Symbol
         ensures { λ r. ⌜ r ≡ shownControl self ⌝ }
     {
         let held = self.held;
         symbol_if(self.hold & self.mosaics, held, Symbol::Letter(0x20))
     }
 
-    fn cell(self, symbol: Symbol) -> Cell
+    pub(crate) fn cell(self, symbol: Symbol) -> Cell
         ensures { λ r. ⌜ r ≡ cell self symbol ⌝ }
     {
+        let height = height_of(self.double);
         Cell {
             symbol,
             foreground: self.foreground,
@@ -146,7 +172,7 @@ impl RowState {
             flash: self.flash,
             conceal: self.conceal,
             boxed: self.boxed,
-            double: self.double,
+            height,
         }
     }
 
@@ -197,28 +223,20 @@ impl RowState {
         }
     }
 
-    // The cell of a control code, with its effects before or after.
-    fn control(self, code: u8) -> Step
+    // Effects after a control code's cell, where it has any.
+    pub(crate) fn after(self, code: u8) -> RowState
         requires { ⌜ code < 0x20 ⌝ }
-        ensures { λ r. ⌜ (r .cell ≡ cellAt self code) × (r .next ≡ next self code) ⌝ }
+        ensures { λ r. ⌜ r ≡ afterCell self code ⌝ }
     {
         if acts_at_once(code) {
-            let own = self.own_cell(code);
-            let symbol = own.shown_control();
-            let cell = own.cell(symbol);
-            let held = own.held;
-            let next = own.passed(held, code);
-            Step { cell, next }
-        } else {
-            let symbol = self.shown_control();
-            let cell = self.cell(symbol);
-            let next = self.after_cell(code);
-            Step { cell, next }
+            let held = self.held;
+            return self.passed(held, code);
         }
+        self.after_cell(code)
     }
 
     // The cell of a letter or a mosaic: a mosaic becomes held, a letter leaves what is held.
-    fn printed(self, code: u8) -> Step
+    pub(crate) fn printed(self, code: u8) -> Step
         requires { ⌜ 0x20 ≤ code ⌝ }
         ensures { λ r. ⌜ (r .cell ≡ cellAt self code) × (r .next ≡ next self code) ⌝ }
     {
@@ -232,17 +250,6 @@ impl RowState {
             let cell = self.cell(Symbol::Letter(code));
             let next = self.passed(held, code);
             Step { cell, next }
-        }
-    }
-
-    // One cell, and the state after it.
-    pub(crate) fn step(self, code: u8) -> Step
-        ensures { λ r. ⌜ (r .cell ≡ cellAt self code) × (r .next ≡ next self code) ⌝ }
-    {
-        if code < 0x20 {
-            self.control(code)
-        } else {
-            self.printed(code)
         }
     }
 }

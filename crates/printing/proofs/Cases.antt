@@ -3,6 +3,7 @@ use mathlib.Core.Path.{_≡_, refl}
 use mathlib.Core.List.{List, [], _∷_, map}
 use Prim.Native.Nat.{ℕ}
 use Rattle.display.specs.Display.{start, along}
+use Rattle.display.specs.Pages.{under}
 use Rattle.printing.specs.Printed.{cellByte}
 
 abbrev bytesOf : List ℕ → List ℕ
@@ -22,3 +23,8 @@ concealed = refl
 pub letters : bytesOf (0x1E ∷ 0x01 ∷ 0x11 ∷ 0x41 ∷ 0x61 ∷ []) ≡ 0x20 ∷ 0x20 ∷ 0x20 ∷ 0x41 ∷ 0x3F ∷ []
 unfolding cellByte along start
 letters = refl
+
+-- below a headline: a lower half prints its letter again, and nothing stands under what is not double
+pub lower-again : map cellByte (map under (along start (0x41 ∷ 0x0D ∷ 0x42 ∷ 0x43 ∷ 0x0C ∷ 0x44 ∷ []))) ≡ 0x20 ∷ 0x20 ∷ 0x42 ∷ 0x43 ∷ 0x20 ∷ 0x20 ∷ []
+unfolding cellByte under along start
+lower-again = refl

@@ -1,7 +1,6 @@
 pub mod Cases
-pub mod Codes
 pub mod Pages
 pub mod Printable
-pub mod Printed
 pub mod Read
+pub mod Shown
 pub mod Unique

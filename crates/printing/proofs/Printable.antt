@@ -1,7 +1,7 @@
--- Every byte of a printed row is a character that can be printed, 20 to 7E: what is held is always a mosaic, and letters are of 20 to 7F.
+-- Every cell of a page is printed as a character that can be printed, 20 to 7E: what is held is always a mosaic, and letters are of 20 to 7F.
 use mathlib.Core.Path.{_≡_, refl, sym, _∙_, subst}
 use mathlib.Core.Bool.{Bool, true, false, cond, _&&_}
-use mathlib.Core.List.{List, [], _∷_, map}
+use mathlib.Core.List.{List, [], _∷_}
 use Prim.Native.Nat.{ℕ, _≤_}
 use native.Mathlib.Omega.{arith}
 use borrow.Author.Tests.{leb-true, ltb-false, eqb-false}
@@ -24,23 +24,18 @@ use Rattle.display.specs.Display.{
   cellAt,
   next,
   along,
-  allCodes,
-  isRow,
 }
+use Rattle.display.specs.Pages.{allCodes, isDouble, isPage, lowerHalf, pageCells, spaceUnder, under}
 use Rattle.display.specs.declared.Symbol.{Symbol}
 use Rattle.display.specs.declared.Symbol.the-variants.{Letter, Mosaic}
 use Rattle.display.specs.declared.Cell.{Cell}
 use Rattle.display.specs.declared.state.RowState.{RowState}
-use Rattle.display.proofs.Steps.{along-none, along-cons, codes-cons, cellAt-is, next-is, row-is}
-use Rattle.display.proofs.Rows.{shown-row}
-use Rattle.printing.specs.Printed.{unprinted, symbolByte, cellByte, printed}
+use Rattle.display.proofs.Each.{Each, page-has}
+use Rattle.display.proofs.Steps.{along-none, along-cons, codes-cons, cellAt-is, next-is}
+use Rattle.printing.specs.Printed.{unprinted, symbolByte, cellByte}
 
 abbrev pub Printable : ℕ → Type 0
 Printable byte = (0x20 ≤ byte) × (byte ≤ 0x7E)
-
-abbrev pub EachPrintable : List ℕ → Type 0
-EachPrintable [] = Unit {0}
-EachPrintable (byte ∷ bytes) = Printable byte × EachPrintable bytes
 
 -- ---- what is held is always a mosaic
 
@@ -110,9 +105,12 @@ cell-printable state code high h =
     subst (λ (c : Cell). Printable (symbolByte (c .symbol))) (cellAt-is state code)
     (shown-printable (ownCell state code) code high (own-held state code h))
 
--- ---- the row
+-- ---- the page
 
-along-printable : (codes : List ℕ) (state : RowState) → allCodes codes ≡ true → IsMosaic (state .held) → EachPrintable (map cellByte (along state codes))
+abbrev pub PrintableCell : Cell → Type 0
+PrintableCell cell = Printable (cellByte cell)
+
+along-printable : (codes : List ℕ) (state : RowState) → allCodes codes ≡ true → IsMosaic (state .held) → Each PrintableCell (along state codes)
 along-printable [] state all h = rw (along-none state) tt
 along-printable (code ∷ codes) state all h =
     let both = both-true (leb code 0x7F) (allCodes codes) (sym (codes-cons code codes) ∙ all) in
@@ -123,6 +121,10 @@ start-held : IsMosaic (start .held)
 unfolding start
 start-held = tt
 
-pub row-printable : (codes : List ℕ) → isRow codes ≡ true → EachPrintable (printed codes .bytes)
-unfolding printed
-row-printable codes e = rw (shown-row codes e) (along-printable codes start (row-is codes e .1) start-held)
+-- under a cell its own symbol is shown, or a space
+under-printable : (cell : Cell) → PrintableCell cell → PrintableCell (under cell)
+unfolding under cellByte lowerHalf spaceUnder symbolByte
+under-printable cell h = either PrintableCell (isDouble (cell .height)) (lowerHalf cell) (spaceUnder cell) h (lit≤ tt, lit≤ tt)
+
+pub page-printable : (codes : List ℕ) → isPage codes ≡ true → Each PrintableCell (pageCells codes)
+page-printable codes e = page-has PrintableCell (λ row all. along-printable row start all start-held) under-printable codes e

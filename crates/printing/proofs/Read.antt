@@ -1,9 +1,9 @@
 -- The codes of a page that is read from a record, or of the zeros beside a refused one: always 960 of 00 to 7F, so that no page of a record is refused by 25, and
--- every byte that is printed for it can be printed.
+-- every cell of it can be printed.
 use mathlib.Core.Path.{_≡_, refl}
 use mathlib.Core.Bool.{Bool, true, false, cond, _&&_}
 use mathlib.Core.List.{List, [], _∷_}
-use Prim.Native.Nat.{ℕ, _<_, _^_}
+use Prim.Native.Nat.{ℕ, _^_}
 use native.Mathlib.Omega.{arith}
 use borrow.Author.Tests.{eq-eqb, le-leb, ltb-true}
 use lib.Dec.{T, ltb}
@@ -12,8 +12,9 @@ use Rattle.laws.specs.Every.{every}
 use Rattle.laws.specs.Fields.{fits}
 use Rattle.laws.proofs.Bools.{both-true, passed}
 use Rattle.laws.proofs.Keeps.{every-replicate}
-use Rattle.grid.specs.Grid.{cellCount, rows}
-use Rattle.display.specs.Display.{allCodes}
+use Rattle.grid.specs.Grid.{cellCount}
+use Rattle.display.specs.Pages.{allCodes, isPage, pageCells}
+use Rattle.display.proofs.Each.{Each}
 use Rattle.display.proofs.Steps.{codes-cons, codes-none}
 use Rattle.page.specs.Lawful.{cellsFit, cellsLawful, digitsLawful, headerFits, magazineFits, pageFits}
 use Rattle.page.specs.Records.{characterWidth, markWidth}
@@ -25,11 +26,7 @@ use Rattle.page.specs.declared.ReadAnswer.the-variants as read
 use Rattle.page.specs.declared.WriteAnswer.{WriteAnswer}
 use Rattle.page.specs.declared.WriteAnswer.the-variants.{Written, TooLarge, BadDigit, UnlawfulCells}
 use Rattle.page.proofs.Trips.{whole-read, writes-read}
-use Rattle.printing.specs.Pages.{isPage}
-use Rattle.printing.specs.Printed.{printed}
-use Rattle.printing.proofs.Codes.{row-of-page}
-use Rattle.printing.proofs.Pages.{rowCodes}
-use Rattle.printing.proofs.Printable.{EachPrintable, row-printable}
+use Rattle.printing.proofs.Printable.{PrintableCell, page-printable}
 
 -- ---- characters of seven bits are codes
 
@@ -104,7 +101,6 @@ characters-read bytes = beside (readAnswer bytes) bytes refl
 pub page-shown : (bytes : List ℕ) → isPage (pageRead bytes .cells .characters) ≡ true
 page-shown bytes = page-of (pageRead bytes .cells .characters) (characters-read bytes)
 
--- and so every byte of a line is one of 20 to 7E
-pub line-printable : (bytes : List ℕ) (row : ℕ) → row < rows → EachPrintable (printed (rowCodes (pageRead bytes .cells .characters) row) .bytes)
-line-printable bytes row h =
-    row-printable (rowCodes (pageRead bytes .cells .characters) row) (row-of-page (pageRead bytes .cells .characters) (page-shown bytes) row h)
+-- and so every cell is printed as one of 20 to 7E
+pub cells-printable : (bytes : List ℕ) → Each PrintableCell (pageCells (pageRead bytes .cells .characters))
+cells-printable bytes = page-printable (pageRead bytes .cells .characters) (page-shown bytes)

@@ -1,14 +1,14 @@
--- Document 01, "Programs": the page printer takes a record and prints 24 lines. Nothing is trimmed, and every line ends in a line feed. A page whose codes
--- are not 960 of 00 to 7F is refused by 25, as a row is.
-use mathlib.Core.Bool.{Bool, cond, _&&_}
-use mathlib.Core.List.{List, [], _∷_, _++_}
+-- Document 01, "Programs": the page printer takes a record and prints 24 lines. Nothing is trimmed, and every line ends in a line feed. Since request 1 of document
+-- 02 a line is a row of the page's cells; what is refused is what the display refuses, by 25.
+use mathlib.Core.Bool.{cond}
+use mathlib.Core.List.{List, [], _∷_, _++_, map}
 use Prim.Native.Nat.{ℕ, zero, suc, _+_, _*_}
-use lib.Dec.{eqb}
-use lib.ListN.{length, take, drop, replicate}
+use lib.ListN.{take, drop, replicate}
 use Rattle.laws.specs.Paper.{accepted, refusedBy}
-use Rattle.grid.specs.Grid.{columns, rows, cellCount}
-use Rattle.display.specs.Display.{allCodes, rowAnswerPaper}
-use Rattle.printing.specs.Printed.{Printed, printed}
+use Rattle.grid.specs.Grid.{columns, rows}
+use Rattle.display.specs.Pages.{displayAnswerPaper, isPage, pageCells}
+use Rattle.display.specs.declared.Cell.{Cell}
+use Rattle.printing.specs.Printed.{Printed, cellByte}
 use Rattle.printing.specs.declared.PrintedPage.{PrintedPage}
 
 -- a row's characters and its line feed, and so many rows
@@ -21,24 +21,19 @@ pageSize = rows * lineSize
 abbrev pub lineFeed : List ℕ
 lineFeed = 0x0A ∷ []
 
-unfoldable pub rowText : List ℕ → List ℕ
-unfolding printed
-rowText codes = printed codes .bytes ++ lineFeed
+unfoldable pub lineText : List Cell → List ℕ
+unfolding cellByte
+lineText cells = map cellByte cells ++ lineFeed
 
--- so many rows, each of the next 40 characters
-unfoldable pub rowsText : ℕ → List ℕ → List ℕ
-unfolding rowText
-rowsText zero characters = []
-rowsText (suc count) characters = rowText (take columns characters) ++ rowsText count (drop columns characters)
+-- so many lines, each of the next 40 cells
+unfoldable pub linesText : ℕ → List Cell → List ℕ
+unfolding lineText
+linesText zero cells = []
+linesText (suc count) cells = lineText (take columns cells) ++ linesText count (drop columns cells)
 
 unfoldable pub pageText : List ℕ → List ℕ
-unfolding rowsText
-pageText characters = rowsText rows characters
-
--- 960 codes of 00 to 7F
-unfoldable pub isPage : List ℕ → Bool
-unfolding allCodes
-isPage codes = eqb (length codes) cellCount && allCodes codes
+unfolding linesText pageCells
+pageText codes = linesText rows (pageCells codes)
 
 -- the answer, and the text beside it, which is zeros beside a refusal
 unfoldable pub printedPage : List ℕ → Printed
@@ -49,5 +44,5 @@ printedPage codes =
     (record { answer = refusedBy 25 []; bytes = replicate pageSize 0 })
 
 unfoldable pub pagePaper : PrintedPage → Printed
-unfolding rowAnswerPaper
-pagePaper page = record { answer = rowAnswerPaper (page .answer); bytes = page .text }
+unfolding displayAnswerPaper
+pagePaper page = record { answer = displayAnswerPaper (page .answer); bytes = page .text }

@@ -6,7 +6,7 @@ use native.Mathlib.Omega.{arith}
 use lib.ListN.{length}
 use Rattle.printing.specs.Pages.{pagePaper, pageSize, pageText, printedPage}
 use Rattle.printing.specs.Printed.{Printed}
-use Rattle.printing.proofs.Codes.{page-shown}
+use Rattle.printing.proofs.Shown.{page-shown}
 use Rattle.announcing.specs.Told.{freshCharacters, leftOutText}
 use Rattle.announcing.proofs.Lengths.{left-out-length}
 use Rattle.announcing.proofs.Putting.{as-text, put-then, same-room}

@@ -1,6 +1,6 @@
--- `display::zero_cells` meets its contract: forty times the zero cell.
+-- `display::zero_cells` meets its contract: the zero cell 960 times.
 use mathlib.Core.Path.{refl}
-use Rattle.display.specs.Display.{zeroCells}
+use Rattle.display.specs.Pages.{zeroCells}
 use Rattle.display.proofs.zero_cells.Statement.{statement}
 use Rattle.display.proofs.zero_cells.Tie as tie
 

@@ -7,7 +7,7 @@ use Rattle.page.specs.declared.Page.{Page}
 use Rattle.page.specs.declared.ReadAnswer.{ReadAnswer}
 use Rattle.printing.specs.Pages.{pagePaper, printedPage}
 use Rattle.printing.specs.Printed.{Printed}
-use Rattle.printing.proofs.Codes.{page-shown}
+use Rattle.printing.proofs.Shown.{page-shown}
 use Rattle.printing.proofs.Read as read
 use Rattle.printer.specs.Output.{outputOf, output}
 use Rattle.printer.proofs.Parts.{output-in}

@@ -1,12 +1,12 @@
 -- `printing::refused_page` meets its contract: 25 and zeros.
 use mathlib.Core.Path.{refl}
-use Rattle.display.specs.Display.{rowAnswerPaper}
+use Rattle.display.specs.Pages.{displayAnswerPaper}
 use Rattle.printing.specs.Pages.{pagePaper}
 use Rattle.printing.proofs.refused_page.Statement.{statement}
 use Rattle.printing.proofs.refused_page.Tie as tie
 
 returns : tie.Need-returns
-unfolding pagePaper rowAnswerPaper
+unfolding pagePaper displayAnswerPaper
 returns c = refl
 
 pub refused-page-spec : {M : Type 1} → statement M

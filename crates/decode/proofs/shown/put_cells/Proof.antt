@@ -1,15 +1,15 @@
 -- `decode::shown::put_cells` is safe and ends: the cells left fall.
 use Prim.Native.Nat.{_-_}
-use Rattle.grid.specs.Grid.{columns}
+use Rattle.grid.specs.Grid.{cellCount}
 use borrow.Author.Needs.{needs}
 use Rattle.decode.proofs.shown.put_cells.Statement.{statement}
 use Rattle.decode.proofs.shown.put_cells.Tie as tie
 
 abbrev Inv-loop : tie.InvT-loop
-Inv-loop cells column₀ column = Unit {0}
+Inv-loop cells place₀ place = Unit {0}
 
 abbrev μ-loop : tie.MeasureT-loop
-μ-loop cells column₀ column = columns - column
+μ-loop cells place₀ place = cellCount - place
 
 loop-holds : tie.Need-loop-holds Inv-loop μ-loop
 loop-holds c = search needs
@@ -23,8 +23,8 @@ array-copy-out-cell c = search needs
 put-cell-requires : tie.Need-put-cell-requires Inv-loop μ-loop
 put-cell-requires c κs = search needs
 
-add-column : tie.Need-add-column Inv-loop μ-loop
-add-column c = search needs
+add-place : tie.Need-add-place Inv-loop μ-loop
+add-place c = search needs
 
 loop-less : tie.Need-loop-less Inv-loop μ-loop
 loop-less c = search needs
@@ -45,7 +45,7 @@ put-cells-spec =
     mul-cell
     array-copy-out-cell
     put-cell-requires
-    add-column
+    add-place
     loop-less
     loop-again
     returns)
