@@ -1,10 +1,10 @@
 #!/usr/bin/env python3
-"""The cases that the programs `decode` and `replay` are bundled with, one of each sort and entry and one of a sort that is not known, and their answers.
+"""The cases that the programs `decode` and `replay` are bundled with, at least one of each sort and entry and one of a sort that is not known, and their answers.
 
     make.py PROGRAM stdin      crates/PROGRAM/stdin
     make.py PROGRAM stdout     what it must write: crates/PROGRAM/stdout
 
-Cases and answers are put together from pieces in hexadecimal that were worked out by hand from document 01: nothing here computes an answer.
+Cases and answers are put together from pieces in hexadecimal that were worked out by hand from document 01 and request 1 of document 02: nothing here computes an answer.
 """
 import os
 import sys
@@ -41,8 +41,8 @@ RECORDING = START + HEADER_100 + START + HEADER_101 + START
 
 LETTER, MOSAIC = b"L".hex(), b"C".hex()
 
-# Forty cells: spaces, white on black. A page whose row 1 is marked case 10 with spaces to its end, and whose row 3 is double from its first column on, so that
-# row 4, of the letter A, is not shown. A cell is its kind, code or pattern, foreground, background, flash, conceal, boxed and height: 1 upper, 2 lower.
+# Forty cells: spaces, white on black. A page whose row 1 is marked case 10 with spaces to its end, and whose row 3 is double behind a 0D in its first column, so
+# that row 4, of the letter A, is not shown. A cell is its kind, code or pattern, foreground, background, flash, conceal, boxed and height: 1 upper, 2 lower.
 BLANK_ROW = 40 * (LETTER + "2007000000 0000")
 HELD = "117f1e1220" + 35 * "20"
 HELD_ROW = LETTER + "2007000000 0000" + 3 * (MOSAIC + "3f01000000 0000") + 36 * (MOSAIC + "0002000000 0000")

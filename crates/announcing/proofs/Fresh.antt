@@ -10,7 +10,7 @@ use lib.ListN.{length, getD, drop}
 use lib.Seq.{drop-cons, ext-getD}
 use Rattle.laws.specs.Every.{every}
 use Rattle.laws.specs.Fields.{fits}
-use Rattle.laws.proofs.Bools.{both-left, both-right, passed}
+use Rattle.laws.proofs.Bools.{both-left, both-right, or-assoc, passed}
 use Rattle.laws.proofs.Keeps.{both, chosen}
 use Rattle.grid.specs.Grid.{cellCount}
 use Rattle.page.specs.Lawful.{isFresh, older, space}
@@ -88,10 +88,6 @@ printable-read bytes =
 pub none-older : oneOlder [] ≡ false
 unfolding oneOlder
 none-older = refl
-
-or-assoc : (a b c : Bool) → (a || b) || c ≡ a || (b || c)
-or-assoc true b c = refl
-or-assoc false b c = refl
 
 pub older-from : (found : Bool) (marks : List ℕ) (i : ℕ) → i < length marks
     → (found || eqb (getD marks i 0) older) || oneOlder (drop (i + 1) marks) ≡ found || oneOlder (drop i marks)

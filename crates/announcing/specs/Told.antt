@@ -1,5 +1,5 @@
 -- What is said of a page that closed. Nothing in doubt is ever read out: the text follows only where the page is clean, and it is what was sent this time and nothing
--- else. Cells that are not fresh print as spaces, and one line says which rows stand there from earlier and were left out. By demand 3 (crate `demands`, A) each row
+-- else. Cells that are not fresh are taken as spaces before the page is displayed, and one line says which rows stand there from earlier and were left out. By demand 3 (crate `demands`, A) each row
 -- from 1 on of a page that closed clean is wholly fresh or has no fresh cell, so that whole rows are left out; nothing here needs it.
 use mathlib.Core.Bool.{Bool, false, cond, _||_}
 use mathlib.Core.List.{List, [], _∷_, _++_, zipWith}

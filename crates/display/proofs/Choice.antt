@@ -26,7 +26,7 @@ pub left-to : (x y : Bool) → not x ≡ false → y ≡ x && y
 left-to true y e = refl
 left-to false y e = absurd (false≢true (sym e))
 
--- the same of a row that lies below a doubled one, or on which 0D does not count
+-- whether a row is asked for 0D at all: not below a doubled one, nor where 0D does not count
 pub not-asked : (below counts has : Bool) → below || not counts ≡ true → false ≡ counts && (not below && has)
 not-asked true true has e = refl
 not-asked true false has e = refl

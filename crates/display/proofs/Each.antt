@@ -1,46 +1,29 @@
 -- What holds of every cell of a page: what holds of a row's cells, and of what is shown under such a cell.
-use mathlib.Core.Path.{_≡_, refl, sym, _∙_, ap}
-use mathlib.Core.Bool.{Bool, true, false, not, _&&_}
+use mathlib.Core.Path.{_≡_}
+use mathlib.Core.Bool.{Bool, true, not, _&&_}
 use mathlib.Core.List.{List, [], _∷_, _++_, map}
-use Prim.Native.Nat.{ℕ, zero, suc, _*_}
+use Prim.Native.Nat.{ℕ, zero, suc, _*_, _<_}
+use native.Mathlib.Omega.{arith}
 use lib.Dec.{T, eqb, leb}
-use lib.ListN.{take, drop}
-use Rattle.laws.specs.Every.{every}
-use Rattle.laws.proofs.Bools.{both-true, passed}
-use Rattle.laws.proofs.Keeps.{either, every-map}
+use lib.ListN.{length, getD, drop}
+use Rattle.laws.proofs.Bools.{passed}
+use Rattle.laws.proofs.Keeps.{either, every-drop, every-map, every-take}
 use Rattle.grid.specs.Grid.{columns, rows}
 use Rattle.display.specs.Display.{along, start}
 use Rattle.display.specs.Pages.{allCodes, doubleCode, doubled, isPage, mayDouble, pageCells, readAs, rowAlone, rowCodes, rowShown, rowsShown, under}
 use Rattle.display.specs.declared.Cell.{Cell}
 use Rattle.display.proofs.Pages.{page-is}
 use Rattle.display.proofs.Rows.{alone-is}
-use Rattle.display.proofs.Steps.{codes-cons, codes-none}
 
--- ---- some of the codes, and as they are read
-
-and-assoc : (a b c : Bool) → (a && b) && c ≡ a && (b && c)
-and-assoc true b c = refl
-and-assoc false b c = refl
-
--- some codes and the others
-codes-split : (n : ℕ) (codes : List ℕ) → allCodes codes ≡ allCodes (take n codes) && allCodes (drop n codes)
-codes-split zero codes = rw codes-none
-codes-split (suc n) [] = rw codes-none
-codes-split (suc n) (code ∷ codes) =
-    codes-cons code codes
-    ∙ (ap (λ (rest : Bool). leb code 0x7F && rest) (codes-split n codes)
-    ∙ (sym (and-assoc (leb code 0x7F) (allCodes (take n codes)) (allCodes (drop n codes)))
-    ∙ ap (λ (front : Bool). front && allCodes (drop n codes)) (sym (codes-cons code (take n codes)))))
-
-codes-both : (n : ℕ) (codes : List ℕ) → allCodes codes ≡ true → (allCodes (take n codes) ≡ true) × (allCodes (drop n codes) ≡ true)
-codes-both n codes all = both-true (allCodes (take n codes)) (allCodes (drop n codes)) (sym (codes-split n codes) ∙ all)
-
-row-codes : (codes : List ℕ) (row : ℕ) → allCodes codes ≡ true → allCodes (rowCodes codes row) ≡ true
-unfolding rowCodes
-row-codes codes row all = codes-both columns (drop (columns * row) codes) (codes-both (columns * row) codes all .1) .0
+-- ---- a row's codes, and as they are read
 
 abbrev isCode : ℕ → Bool
 isCode code = leb code 0x7F
+
+row-codes : (codes : List ℕ) (row : ℕ) → allCodes codes ≡ true → allCodes (rowCodes codes row) ≡ true
+unfolding rowCodes allCodes
+row-codes codes row all =
+    passed _ (every-take isCode columns (drop (columns * row) codes) (every-drop isCode (columns * row) codes (rw all tt)))
 
 read-code : (counts : Bool) (code : ℕ) → T (isCode code) → T (isCode (readAs counts code))
 unfolding readAs
@@ -64,7 +47,13 @@ each-map : (P : Cell → Type 0) (f : Cell → Cell) → ((cell : Cell) → P ce
 each-map P f keeps [] a = tt
 each-map P f keeps (cell ∷ cells) a = (keeps cell (a .0), each-map P f keeps cells (a .1))
 
-module _ (P : Cell → Type 0) (row-has : (codes : List ℕ) → allCodes codes ≡ true → Each P (along start codes)) (keeps : (cell : Cell) → P cell → P (under cell)) where
+pub each-at : (P : Cell → Type 0) (cells : List Cell) → Each P cells → (k : ℕ) (d : Cell) → k < length cells → P (getD cells k d)
+each-at P [] each k d h = absurd (omega arith)
+each-at P (cell ∷ cells) each zero d h = each .0
+each-at P (cell ∷ cells) each (suc k) d h = each-at P cells (each .1) k d (omega arith)
+
+module _ (P : Cell → Type 0) (row-has : (codes : List ℕ) → allCodes codes ≡ true → Each P (along start codes))
+    (keeps : (cell : Cell) → P cell → P (under cell)) where
   alone-has : (codes : List ℕ) (row : ℕ) → allCodes codes ≡ true → Each P (rowAlone codes row)
   alone-has codes row all =
       rw (alone-is codes row) (row-has (map (readAs (mayDouble row)) (rowCodes codes row)) (read-codes (mayDouble row) (rowCodes codes row) (row-codes codes row all)))

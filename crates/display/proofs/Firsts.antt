@@ -4,18 +4,37 @@ use mathlib.Core.Bool.{Bool, true, false, and-false}
 use mathlib.Core.List.{List, [], _∷_, _++_, map}
 use Prim.Native.Nat.{ℕ, zero, suc, _+_, _-_, _*_, _<_, _≤_}
 use native.Mathlib.Omega.{arith}
-use lib.Dec.{eqb}
-use lib.ListN.{take, drop, replicate, replicate-append-replicate}
-use Rattle.laws.proofs.Bools.{neither}
-use Rattle.laws.proofs.Keeps.{take-map}
+use borrow.Author.Tests.{eq-eqb}
+use lib.Dec.{eqb, leb}
+use lib.ListN.{length, take, replicate, length-replicate, replicate-append-replicate}
+use Rattle.laws.specs.Paper.{accepted}
+use Rattle.laws.proofs.Bools.{neither, passed}
+use Rattle.laws.proofs.Keeps.{every-replicate, take-map}
+use Rattle.laws.proofs.Lists.{drop-replicate, take-replicate}
 use Rattle.grid.specs.Grid.{cellCount, columns, rows}
 use Rattle.display.specs.Display.{along, black, cellAt, next, space, start, white}
-use Rattle.display.specs.Pages.{alone, doubleCode, doubled, hasDouble, mayDouble, pageCells, readAs, rowAlone, rowCodes, rowShown, rowsShown}
+use Rattle.display.specs.Pages.{
+  allCodes,
+  alone,
+  displayed,
+  doubleCode,
+  doubled,
+  hasDouble,
+  isPage,
+  mayDouble,
+  pageCells,
+  readAs,
+  rowAlone,
+  rowCodes,
+  rowShown,
+  rowsShown,
+}
 use Rattle.display.specs.declared.Cell.{Cell}
 use Rattle.display.specs.declared.Height.the-variants.{Normal}
 use Rattle.display.specs.declared.state.RowState.{RowState}
+use Rattle.display.proofs.Pages.{shown-page}
 use Rattle.display.proofs.Rows.{belowDoubled, doubled-is, shown-alone}
-use Rattle.display.proofs.Steps.{along-cons, along-none}
+use Rattle.display.proofs.Steps.{along-cons, along-none, as-it-is}
 
 -- ---- the first cells
 
@@ -32,10 +51,6 @@ unfolding alone
 first-alone n counts codes = first-cells n start (map (readAs counts) codes) ∙ ap (along start) (take-map (readAs counts) n codes)
 
 -- ---- codes without a 0D are read as they are
-
-as-it-is : (counts : Bool) (code : ℕ) → eqb code doubleCode ≡ false → readAs counts code ≡ code
-unfolding readAs
-as-it-is counts code e = rw (e, and-false)
 
 as-they-are : (counts : Bool) (codes : List ℕ) → hasDouble codes ≡ false → map (readAs counts) codes ≡ codes
 unfolding hasDouble
@@ -74,19 +89,10 @@ blankCell =
 abbrev pub spaces : List ℕ
 spaces = replicate cellCount 0x20
 
-take-same : (n m : ℕ) → n ≤ m → take {A = ℕ} n (replicate m 0x20) ≡ replicate n 0x20
-take-same zero m h = refl
-take-same (suc n) zero h = absurd (omega arith)
-take-same (suc n) (suc m) h = ap (λ (rest : List ℕ). 0x20 ∷ rest) (take-same n m (omega arith))
-
-drop-same : (n m : ℕ) → drop {A = ℕ} n (replicate m 0x20) ≡ replicate (m - n) 0x20
-drop-same zero m = ap (λ (k : ℕ). replicate k 0x20) (let e : m ≡ m - 0 = omega arith in e)
-drop-same (suc n) zero = ap (λ (k : ℕ). replicate k 0x20) (let e : 0 ≡ 0 - suc n = omega arith in e)
-drop-same (suc n) (suc m) = drop-same n m ∙ ap (λ (k : ℕ). replicate k 0x20) (let e : m - n ≡ suc m - suc n = omega arith in e)
-
 row-of-spaces : (row : ℕ) → row < rows → rowCodes spaces row ≡ replicate columns 0x20
 unfolding rowCodes
-row-of-spaces row h = ap (take columns) (drop-same (columns * row) cellCount) ∙ take-same columns (cellCount - columns * row) (omega arith)
+row-of-spaces row h =
+    ap (take columns) (drop-replicate (columns * row) cellCount 0x20) ∙ take-replicate columns (cellCount - columns * row) 0x20 (omega arith)
 
 none-double : hasDouble (replicate columns 0x20) ≡ false
 unfolding hasDouble
@@ -104,12 +110,12 @@ module _ (row : ℕ) (h : row < rows) where
   unfolding rowAlone
   spaces-alone = plain-alone (mayDouble row) (rowCodes spaces row) no-double ∙ (ap (along start) (row-of-spaces row h) ∙ blank-row)
 
-  none-below : doubled spaces row ≡ false
-  none-below = sym (doubled-is spaces row) ∙ rw (no-double, and-false, and-false)
+  not-doubled : doubled spaces row ≡ false
+  not-doubled = sym (doubled-is spaces row) ∙ rw (no-double, and-false, and-false)
 
 free-row : (row : ℕ) → row < rows → belowDoubled spaces row ≡ false
 free-row zero h = refl
-free-row (suc above) h = none-below above (omega arith)
+free-row (suc above) h = not-doubled above (omega arith)
 
 blank-rows : (count : ℕ) → count ≤ rows → rowsShown spaces count ≡ replicate (columns * count) blankCell
 unfolding rowsShown
@@ -121,6 +127,13 @@ blank-rows (suc row) h =
     ∙ (ap (λ (cells : List Cell). replicate (columns * row) blankCell ++ cells) shown
     ∙ (replicate-append-replicate (columns * row) columns blankCell ∙ ap (λ (n : ℕ). replicate n blankCell) more))
 
-pub page-of-spaces : pageCells spaces ≡ replicate cellCount blankCell
+blank-page : pageCells spaces ≡ replicate cellCount blankCell
 unfolding pageCells
-page-of-spaces = blank-rows rows (omega arith)
+blank-page = blank-rows rows (omega arith)
+
+spaces-fit : isPage spaces ≡ true
+unfolding isPage allCodes
+spaces-fit = rw (eq-eqb (length spaces) cellCount (length-replicate {A = ℕ} cellCount 0x20)) (passed _ (every-replicate (λ (code : ℕ). leb code 0x7F) cellCount 0x20 tt))
+
+pub page-of-spaces : displayed spaces ≡ record { answer = accepted []; cells = replicate cellCount blankCell }
+page-of-spaces = rw (shown-page spaces spaces-fit, blank-page)

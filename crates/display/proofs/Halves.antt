@@ -1,20 +1,19 @@
 -- The laws of double height, of any page that is shown, by row and column: rows 0 and 23 make no double cell; a row that lies below no doubled one is what its codes
--- alone give; a lower half is its upper half but for the word, and stands under it; no two rows running have an upper half.
+-- alone give; a lower half is its upper half but for the word and stands under it, and each upper half has one; no two rows running both have an upper half.
 use mathlib.Core.Path.{_≡_, refl, _∙_, sym, ap}
 use mathlib.Core.Bool.{Bool, true, false, not, cond, _&&_, _||_, false≢true}
 use mathlib.Core.List.{List, [], _∷_, map}
-use Prim.Native.Nat.{ℕ, zero, suc, _+_, _*_, _<_}
+use Prim.Native.Nat.{ℕ, zero, suc, _+_, _*_, _<_, _≤_}
 use native.Mathlib.Omega.{arith}
 use lib.Dec.{eqb}
 use lib.ListN.{length, getD, take, drop}
-use lib.Seq.{ext-getD}
+use lib.Seq.{ext-getD, take-take}
 use Rattle.laws.proofs.Bools.{neither}
 use Rattle.laws.proofs.Lists.{getD-map, getD-part, length-part}
 use Rattle.grid.specs.Grid.{cellCount, columns, lastRow, rows}
 use Rattle.display.specs.Display.{along, cellAt, heightOf, next, ownCell, start, zeroCell}
 use Rattle.display.specs.Pages.{
   Displayed,
-  alone,
   displayed,
   doubleCode,
   doubled,
@@ -35,7 +34,8 @@ use Rattle.display.specs.declared.Cell.{Cell}
 use Rattle.display.specs.declared.Height.{Height}
 use Rattle.display.specs.declared.Height.the-variants.{Normal, Upper, Lower}
 use Rattle.display.specs.declared.state.RowState.{RowState}
-use Rattle.display.proofs.Each.{Each}
+use Rattle.display.proofs.Each.{Each, each-at}
+use Rattle.display.proofs.Firsts.{first-alone, plain-alone}
 use Rattle.display.proofs.Pages.{page-is, shown-page}
 use Rattle.display.proofs.Rows.{belowDoubled, doubled-is, shown-alone, shown-under, doubled-free, alone-is, alone-forty, page-length, cell-at}
 use Rattle.display.proofs.Steps.{along-none, along-cons}
@@ -84,11 +84,6 @@ calm-row counts (code ∷ codes) state none calm =
 start-calm : start .double ≡ false
 unfolding start
 start-calm = refl
-
-each-at : (P : Cell → Type 0) (cells : List Cell) → Each P cells → (k : ℕ) (d : Cell) → k < length cells → P (getD cells k d)
-each-at P [] each k d h = absurd (omega arith)
-each-at P (cell ∷ cells) each zero d h = each .0
-each-at P (cell ∷ cells) each (suc k) d h = each-at P cells (each .1) k d (omega arith)
 
 -- ---- heights
 
@@ -168,13 +163,15 @@ module _ (codes : List ℕ) (page : isPage codes ≡ true) where
     cell-alone : belowDoubled codes row ≡ false → cellIn row column ≡ getD (rowAlone codes row) column zeroCell
     cell-alone free = cell-shown ∙ ap (λ (cells : List Cell). getD cells column zeroCell) (shown-alone codes row free)
 
-    has-alone : (P : Cell → Type 0) → Each P (along start (map (readAs (mayDouble row)) (rowCodes codes row))) → belowDoubled codes row ≡ false → P (cellIn row column)
+    has-alone : (P : Cell → Type 0) → Each P (along start (map (readAs (mayDouble row)) (rowCodes codes row))) → belowDoubled codes row ≡ false
+        → P (cellIn row column)
     has-alone P each free =
         let forty = alone-forty codes full row h in
         rw (cell-alone free) (each-at P (rowAlone codes row) (rw (alone-is codes row) each) column zeroCell (omega arith))
 
   -- a row that lies below no doubled one is what its codes alone give
-  pub row-alone : (row : ℕ) → row < rows → belowDoubled codes row ≡ false → take columns (drop (columns * row) (displayed codes .cells)) ≡ rowAlone codes row
+  pub row-alone : (row : ℕ) → row < rows → belowDoubled codes row ≡ false
+      → take columns (drop (columns * row) (displayed codes .cells)) ≡ rowAlone codes row
   row-alone row h free =
       let size = ap length cells-are ∙ page-length codes full in
       let part = length-part (displayed codes .cells) (columns * row) columns (omega arith) in
@@ -185,13 +182,15 @@ module _ (codes : List ℕ) (page : isPage codes ≡ true) where
       getD-part (displayed codes .cells) (columns * row) columns k zeroCell small ∙ cell-alone row k h small free)
 
   -- the row below a doubled one is made from the cells above it
-  pub row-under : (above column : ℕ) → suc above < rows → column < columns → doubled codes above ≡ true → cellIn (suc above) column ≡ under (cellIn above column)
+  pub row-under : (above column : ℕ) → suc above < rows → column < columns → doubled codes above ≡ true
+      → cellIn (suc above) column ≡ under (cellIn above column)
   row-under above column h k double =
       let inside : above < rows = omega arith in
       let forty = alone-forty codes full above inside in
       cell-shown (suc above) column h k
       ∙ (ap (λ (cells : List Cell). getD cells column zeroCell) (shown-under codes above double)
-      ∙ (getD-map under (rowAlone codes above) column zeroCell zeroCell (omega arith) ∙ ap under (sym (cell-alone above column inside k (doubled-free codes above double)))))
+      ∙ (getD-map under (rowAlone codes above) column zeroCell zeroCell (omega arith)
+      ∙ ap under (sym (cell-alone above column inside k (doubled-free codes above double)))))
 
   -- a row on which no 0D counts, or that has none, has normal cells alone
   alone-normal : (row column : ℕ) → row < rows → column < columns → belowDoubled codes row ≡ false
@@ -200,18 +199,19 @@ module _ (codes : List ℕ) (page : isPage codes ≡ true) where
       has-alone row column h k IsNormal (calm-row (mayDouble row) (rowCodes codes row) start none start-calm) free
 
   -- rows 0 and 23 make no double cell themselves: where one has any, it is below a doubled row
-  pub made-normal : (row column : ℕ) → row < rows → column < columns → mayDouble row ≡ false → belowDoubled codes row ≡ false → cellIn row column .height ≡ Normal
+  pub made-normal : (row column : ℕ) → row < rows → column < columns → mayDouble row ≡ false → belowDoubled codes row ≡ false
+      → cellIn row column .height ≡ Normal
   made-normal row column h k plain free = alone-normal row column h k free (rw plain)
 
   pub row-0-normal : (column : ℕ) → column < columns → cellIn 0 column .height ≡ Normal
   unfolding mayDouble
   row-0-normal column k = made-normal 0 column (omega arith) k refl refl
 
-  -- a row that is not doubled has no upper half
   not-doubled : (may below has : Bool) → may && (not below && has) ≡ false → below ≡ false → may && has ≡ false
   not-doubled may true has e free = absurd (false≢true (sym free))
   not-doubled may false has e free = e
 
+  -- a row that is not doubled has no upper half
   no-upper : (row column : ℕ) (below : Bool) → belowDoubled codes row ≡ below → row < rows → column < columns → doubled codes row ≡ false
       → cellIn row column .height ≡ Upper → ⊥
   no-upper zero column true e h k plain upper = absurd (false≢true e)
@@ -221,11 +221,15 @@ module _ (codes : List ℕ) (page : isPage codes ≡ true) where
       let none = not-doubled (mayDouble row) (belowDoubled codes row) (hasDouble (rowCodes codes row)) (doubled-is codes row ∙ plain) e in
       differ (sym (alone-normal row column h k e none) ∙ upper) (λ n. omega arith)
 
+  pub row-23-normal : (column : ℕ) → column < columns → belowDoubled codes lastRow ≡ false → cellIn lastRow column .height ≡ Normal
+  unfolding mayDouble
+  row-23-normal column k free = made-normal lastRow column (omega arith) k refl free
+
   pub row-23-not-upper : (column : ℕ) → column < columns → cellIn lastRow column .height ≡ Upper → ⊥
   unfolding doubled mayDouble
   row-23-not-upper column k upper = no-upper lastRow column (belowDoubled codes lastRow) refl (omega arith) k refl upper
 
-  -- no two rows running have an upper half
+  -- no two rows running both have an upper half
   two-upper : (row column column′ : ℕ) → suc row < rows → column < columns → column′ < columns → (double : Bool) → doubled codes row ≡ double
       → cellIn row column .height ≡ Upper → cellIn (suc row) column′ .height ≡ Upper → ⊥
   two-upper row column column′ h k k′ true e upper upper′ =
@@ -237,16 +241,40 @@ module _ (codes : List ℕ) (page : isPage codes ≡ true) where
   no-two-upper row column column′ h k k′ = two-upper row column column′ h k k′ (doubled codes row) refl
 
   -- a lower half is the upper half above it but for the word
-  lower-by-row : (above column : ℕ) → suc above < rows → column < columns → (double : Bool) → doubled codes above ≡ double → cellIn (suc above) column .height ≡ Lower
+  lower-by-row : (above column : ℕ) → suc above < rows → column < columns → (double : Bool) → doubled codes above ≡ double
+      → cellIn (suc above) column .height ≡ Lower
       → (cellIn above column .height ≡ Upper) × (cellIn (suc above) column ≡ lowerHalf (cellIn above column))
   lower-by-row above column h k true e lower =
       let made = row-under above column h k e in
       let double = double-above (cellIn above column) (ap (λ (cell : Cell). cell .height) (sym made) ∙ lower) in
-      let other = has-alone above column (omega arith) k NotLower (not-lower start (map (readAs (mayDouble above)) (rowCodes codes above))) (doubled-free codes above e) in
+      let read = map (readAs (mayDouble above)) (rowCodes codes above) in
+      let other = has-alone above column (omega arith) k NotLower (not-lower start read) (doubled-free codes above e) in
       (double-not-lower (cellIn above column .height) double other, made ∙ lower-is (cellIn above column) double)
   lower-by-row above column h k false e lower =
-      absurd (has-alone (suc above) column h k NotLower (not-lower start (map (readAs (mayDouble (suc above))) (rowCodes codes (suc above)))) e lower)
+      let read = map (readAs (mayDouble (suc above))) (rowCodes codes (suc above)) in
+      absurd (has-alone (suc above) column h k NotLower (not-lower start read) e lower)
 
   pub lower-half : (above column : ℕ) → suc above < rows → column < columns → cellIn (suc above) column .height ≡ Lower
       → (cellIn above column .height ≡ Upper) × (cellIn (suc above) column ≡ lowerHalf (cellIn above column))
   lower-half above column h k = lower-by-row above column h k (doubled codes above) refl
+
+  -- each upper half has its lower half below it
+  upper-by-row : (above column : ℕ) → suc above < rows → column < columns → (double : Bool) → doubled codes above ≡ double
+      → cellIn above column .height ≡ Upper → cellIn (suc above) column ≡ lowerHalf (cellIn above column)
+  unfolding isDouble
+  upper-by-row above column h k true e upper =
+      row-under above column h k e ∙ lower-is (cellIn above column) (ap isDouble upper)
+  upper-by-row above column h k false e upper = absurd (no-upper above column (belowDoubled codes above) refl (omega arith) k e upper)
+
+  pub upper-half : (above column : ℕ) → suc above < rows → column < columns → cellIn above column .height ≡ Upper
+      → cellIn (suc above) column ≡ lowerHalf (cellIn above column)
+  upper-half above column h k = upper-by-row above column h k (doubled codes above) refl
+
+  -- the first cells of a row that lies below none are those of its first codes, where these have no 0D: so the marked cases hold of every such row
+  pub first-shown : (n row : ℕ) → n ≤ columns → row < rows → belowDoubled codes row ≡ false → hasDouble (take n (rowCodes codes row)) ≡ false
+      → take n (drop (columns * row) (displayed codes .cells)) ≡ along start (take n (rowCodes codes row))
+  unfolding rowAlone
+  first-shown n row few h free none =
+      sym (take-take n columns (drop (columns * row) (displayed codes .cells)) few)
+      ∙ (ap (take n) (row-alone row h free)
+      ∙ (first-alone n (mayDouble row) (rowCodes codes row) ∙ plain-alone (mayDouble row) (take n (rowCodes codes row)) none))

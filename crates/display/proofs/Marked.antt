@@ -1,5 +1,5 @@
--- The marked cases 9 to 12 of document 01, computed. A row's first cells depend on its first codes alone, and none of these is 0D (`Firsts`), so that each holds of every row that
--- starts with these codes.
+-- The marked cases 9 to 12 of document 01, computed. A row's first cells depend on its first codes alone, and none of these is 0D, so that each holds of every row that
+-- starts with these codes and lies below no doubled one (`Halves`, `first-shown`).
 use mathlib.Core.Path.{_≡_, refl}
 use mathlib.Core.Bool.{Bool, true, false}
 use mathlib.Core.List.{[], _∷_, map}

@@ -5,7 +5,7 @@ use mathlib.Core.List.{List, [], _∷_, _++_, map}
 use Prim.Native.Nat.{ℕ}
 use lib.ListN.{replicate}
 use Rattle.display.specs.Display.{space, blank, start, along}
-use Rattle.display.specs.Pages.{alone, doubled, under}
+use Rattle.display.specs.Pages.{alone, doubled, mayDouble, under}
 use Rattle.display.specs.declared.Cell.{Cell}
 use Rattle.display.specs.declared.Height.{Height}
 use Rattle.display.specs.declared.Height.the-variants.{Normal, Upper, Lower}
@@ -94,25 +94,31 @@ unfolding under along start
 below-on-red = refl
 
 -- where 0D does not count it is like 00: no size changes, and what is held stays, as it does not where 0D counts
-pub held-past-0D : map (λ (cell : Cell). cell .symbol) (alone false (0x11 ∷ 0x1E ∷ 0x7F ∷ 0x0D ∷ 0x00 ∷ 0x41 ∷ [])) ≡ space ∷ blank ∷ full ∷ full ∷ full ∷ Letter 0x41 ∷ []
+pub held-past-0D : map (λ (cell : Cell). cell .symbol) (alone false (0x11 ∷ 0x1E ∷ 0x7F ∷ 0x0D ∷ 0x00 ∷ 0x41 ∷ []))
+    ≡ space ∷ blank ∷ full ∷ full ∷ full ∷ Letter 0x41 ∷ []
 unfolding alone
 held-past-0D = refl
 
 abbrev doubledFirst : List ℕ → List Bool
 doubledFirst codes = map (doubled codes) (0 ∷ 1 ∷ 2 ∷ 3 ∷ 4 ∷ [])
 
--- 0D in the last column of five rows running: row 0 takes none, row 1 takes row 2, which is not asked, and row 3 takes row 4
 abbrev lastColumn : List ℕ
 lastColumn = replicate 39 0x20 ++ (0x0D ∷ [])
 
+-- 0D in the last column of five rows running: row 0 takes none, row 1 takes row 2, which is not asked, and row 3 takes row 4
 pub five-running : doubledFirst (lastColumn ++ (lastColumn ++ (lastColumn ++ (lastColumn ++ lastColumn)))) ≡ false ∷ true ∷ false ∷ true ∷ false ∷ []
 unfolding doubled
 five-running = refl
 
--- a 0D on row 1 that is undone at once takes the row below all the same
 abbrev undoneOnRow1 : List ℕ
 undoneOnRow1 = replicate 40 0x20 ++ (0x0D ∷ 0x0C ∷ [])
 
+-- a 0D on row 1 that is undone at once takes the row below all the same
 pub undone : doubledFirst undoneOnRow1 ≡ false ∷ true ∷ false ∷ false ∷ false ∷ []
 unfolding doubled
 undone = refl
+
+-- 0D counts on rows 1 and 22, and not on rows 0 and 23
+pub first-and-last : map mayDouble (0 ∷ 1 ∷ 22 ∷ 23 ∷ []) ≡ false ∷ true ∷ true ∷ false ∷ []
+unfolding mayDouble
+first-and-last = refl

@@ -9,6 +9,7 @@ use borrow.Author.Tests.{ne-eqb}
 use lib.Dec.{eqb, leb, ltb}
 use lib.ListN.{length, getD, drop}
 use lib.Seq.{drop-cons}
+use Rattle.laws.proofs.Bools.{or-assoc}
 use Rattle.laws.proofs.Keeps.{either}
 use Rattle.laws.proofs.Opposite.{at-most-is}
 use Rattle.display.specs.Display.{ownCell, shown, cell, afterCell, cellAt, next, along}
@@ -52,10 +53,6 @@ pub one-asked : (codes : List ℕ) (i : ℕ) → i < length codes → (high : Bo
     → not (high || ltb 0x7F (getD codes i 0)) && allCodes (drop (i + 1) codes) ≡ not high && allCodes (drop i codes)
 one-asked codes i h high = rw (codes-from codes i h, at-most-is (getD codes i 0) 0x7F) (neither high (ltb 0x7F (getD codes i 0)) (allCodes (drop (i + 1) codes)))
 
-pub along-from : (state : RowState) (codes : List ℕ) (i : ℕ) → i < length codes
-    → along state (drop i codes) ≡ cellAt state (getD codes i 0) ∷ along (next state (getD codes i 0)) (drop (i + 1) codes)
-along-from state codes i h = ap (along state) (drop-cons codes i 0 h) ∙ rw (along-cons, add-one)
-
 -- a cell for each code
 pub along-length : (state : RowState) (codes : List ℕ) → length (along state codes) ≡ length codes
 along-length state [] = ap length (along-none state)
@@ -65,10 +62,6 @@ along-length state (code ∷ codes) = ap length (along-cons state code codes) �
 pub double-none : hasDouble [] ≡ false
 unfolding hasDouble
 double-none = refl
-
-or-assoc : (a b c : Bool) → (a || b) || c ≡ a || (b || c)
-or-assoc true b c = refl
-or-assoc false b c = refl
 
 pub double-from : (codes : List ℕ) (i : ℕ) → i < length codes → (found : Bool)
     → (found || eqb (getD codes i 0) doubleCode) || hasDouble (drop (i + 1) codes) ≡ found || hasDouble (drop i codes)
@@ -83,10 +76,13 @@ pub read-control : (counts : Bool) {code : ℕ} → code < 0x20 → readAs count
 unfolding readAs
 read-control counts {code} h = either (λ (n : ℕ). n < 0x20) (not counts && eqb code doubleCode) 0x00 code (omega arith) h
 
--- and a printed code is itself
-pub read-printed : (counts : Bool) {code : ℕ} → 0x20 ≤ code → readAs counts code ≡ code
+-- a code that is no 0D is read as it is, and so is a printed one
+pub as-it-is : (counts : Bool) (code : ℕ) → eqb code doubleCode ≡ false → readAs counts code ≡ code
 unfolding readAs
-read-printed counts {code} h = rw (ne-eqb code doubleCode (λ e. omega arith), and-false)
+as-it-is counts code e = rw (e, and-false)
+
+pub read-printed : (counts : Bool) {code : ℕ} → 0x20 ≤ code → readAs counts code ≡ code
+read-printed counts {code} h = as-it-is counts code (ne-eqb code doubleCode (λ e. omega arith))
 
 pub low-as : {read code : ℕ} → read ≡ code → code < 0x20 → read < 0x20
 low-as e h = rw e h

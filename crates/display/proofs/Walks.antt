@@ -32,7 +32,7 @@ use Rattle.display.proofs.Rows.{
 use Rattle.display.proofs.Steps.{along-cons}
 
 -- the codes of a row, as they are read on it
-abbrev pub readCodes : List ℕ → ℕ → List ℕ
+abbrev readCodes : List ℕ → ℕ → List ℕ
 readCodes codes number = map (readAs (mayDouble number)) (rowCodes codes number)
 
 -- from this column on, the state gives the row's cells, where the row is one alone
@@ -87,7 +87,7 @@ begun codes =
 -- ---- a cell
 
 -- row 0 lies below none
-pub below-inside : (codes : List ℕ) (number : ℕ) → belowDoubled codes number ≡ true → 0 < number
+below-inside : (codes : List ℕ) (number : ℕ) → belowDoubled codes number ≡ true → 0 < number
 below-inside codes zero e = absurd (false≢true e)
 below-inside codes (suc above) e = omega arith
 
@@ -103,11 +103,12 @@ under-at codes full (suc above) column h k e d place here =
     let alone = shown-alone codes above (doubled-free codes above e) in
     ap (λ (n : ℕ). under (getD (pageCells codes) n d)) at
     ∙ (ap under (cell-at codes full column k d above inside ∙ ap (λ (cells : List Cell). getD cells column d) alone)
-    ∙ (sym (getD-map under (rowAlone codes above) column zeroCell d (omega arith)) ∙ ap (λ (cells : List Cell). getD cells column zeroCell) (sym (shown-under codes above e))))
+    ∙ (sym (getD-map under (rowAlone codes above) column zeroCell d (omega arith))
+    ∙ ap (λ (cells : List Cell). getD cells column zeroCell) (sym (shown-under codes above e))))
 
 module _ (codes : List ℕ) (full : length codes ≡ cellCount) {row : PageRow} {state : RowState} {place : ℕ} {cells : List Cell}
     (known : Reached codes row state place cells) (h : place < cellCount) where
-  pub row-inside : known .number < rows
+  row-inside : known .number < rows
   row-inside = let here = known .here in omega arith
 
   in-codes : known .column < length (readCodes codes (known .number))
@@ -124,11 +125,11 @@ module _ (codes : List ℕ) (full : length codes ≡ cellCount) {row : PageRow} 
       omega arith
 
   -- the cell that is due here
-  abbrev pub due : Cell
+  abbrev due : Cell
   due = getD (rowShown codes (known .number)) (known .column) zeroCell
 
   -- the code at this place, as it is read on this row
-  abbrev pub codeRead : ℕ
+  abbrev codeRead : ℕ
   codeRead = readAs (row .counts) (getD codes place 0)
 
   code-here : getD (readCodes codes (known .number)) (known .column) 0 ≡ codeRead
@@ -182,7 +183,8 @@ module _ (codes : List ℕ) (full : length codes ≡ cellCount) {row : PageRow} 
   stored cell is =
       let size = known .filled .size in
       let long = page-length codes full in
-      let here = ap (λ (n : ℕ). getD (pageCells codes) n zeroCell) (known .here) ∙ cell-at codes full (known .column) (known .inside) zeroCell (known .number) row-inside in
+      let placed = cell-at codes full (known .column) (known .inside) zeroCell (known .number) row-inside in
+      let here = ap (λ (n : ℕ). getD (pageCells codes) n zeroCell) (known .here) ∙ placed in
       record {
         size = length-set cells place cell ∙ size;
         done =
@@ -199,7 +201,8 @@ module _ (codes : List ℕ) (full : length codes ≡ cellCount) {row : PageRow} 
 
   module _ {cells′ : List Cell} (filled : Filled codes (place + 1) cells′) where
     -- in the same row
-    pub next-column : {after : RowState} → Ahead codes (known .number) (known .column + 1) after → (place + 1 ≡ row .end → ⊥) → Reached codes row after (place + 1) cells′
+    pub next-column : {after : RowState} → Ahead codes (known .number) (known .column + 1) after → (place + 1 ≡ row .end → ⊥)
+        → Reached codes row after (place + 1) cells′
     next-column ahead more =
         let here = known .here in
         let inside = known .inside in

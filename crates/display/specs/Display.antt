@@ -1,5 +1,5 @@
 -- Document 01, "Display cells", in its order: what a row starts with, what a code does at its own cell, what is shown, what a code does after its
--- cell, and the row alone, which is that step repeated; `Pages` has the page. Codes are hexadecimal, patterns decimal.
+-- cell, and a row, code by code, which is that step repeated; `Pages` has the page. Codes are hexadecimal, patterns decimal.
 use mathlib.Core.Bool.{Bool, true, false, not, cond, _&&_, _||_}
 use mathlib.Core.List.{List, [], _∷_}
 use Prim.Native.Nat.{ℕ, _+_, _*_, _%_}
@@ -160,7 +160,7 @@ afterCell state code =
       before = code;
     }
 
--- ---- the row alone
+-- ---- a row, code by code
 
 -- effects at a code's own cell come before it is shown
 unfoldable pub cellAt : RowState → ℕ → Cell

@@ -1,5 +1,5 @@
--- Document 02, request 1, in its order: which rows are doubled, what the row below a doubled one shows, and the page; then refusal 25, which asks for the
--- page's 960 codes, and the answer.
+-- Document 02, request 1: a row alone, by whether 0D counts on it; which rows are doubled; what the row below a doubled one shows; the page. Then refusal 25, which
+-- asks for the page's 960 codes, and the answer.
 use mathlib.Core.Bool.{Bool, true, false, not, cond, _&&_, _||_}
 use mathlib.Core.List.{List, [], _∷_, _++_, map}
 use Prim.Native.Nat.{ℕ, zero, suc, _*_}
@@ -16,12 +16,12 @@ use Rattle.display.specs.declared.DisplayedPage.{DisplayedPage}
 use Rattle.display.specs.declared.Height.{Height}
 use Rattle.display.specs.declared.Height.the-variants.{Normal, Upper, Lower}
 
--- ---- which rows are doubled
+-- ---- a row alone
 
 abbrev pub doubleCode : ℕ
 doubleCode = 0x0D
 
--- a row from 1 to 22
+-- the rows on which 0D counts: 1 to 22
 abbrev pub firstDouble : ℕ
 firstDouble = 1
 
@@ -32,34 +32,34 @@ unfoldable pub mayDouble : ℕ → Bool
 unfolding within
 mayDouble row = within firstDouble lastDouble row
 
+-- on rows 0 and 23 the code 0D does nothing: it is read as 00, a control code with no effect
+unfoldable pub readAs : Bool → ℕ → ℕ
+readAs counts code = cond (not counts && eqb code doubleCode) 0x00 code
+
+-- a row as its codes alone give it, by whether 0D counts on it
+unfoldable pub alone : Bool → List ℕ → List Cell
+unfolding along start readAs
+alone counts codes = along start (map (readAs counts) codes)
+
 unfoldable pub rowCodes : List ℕ → ℕ → List ℕ
 rowCodes codes row = take columns (drop (columns * row) codes)
+
+unfoldable pub rowAlone : List ℕ → ℕ → List Cell
+unfolding alone mayDouble rowCodes
+rowAlone codes row = alone (mayDouble row) (rowCodes codes row)
+
+-- ---- which rows are doubled
 
 -- has a 0D code, in whatever column, and whatever comes after it
 unfoldable pub hasDouble : List ℕ → Bool
 hasDouble [] = false
 hasDouble (code ∷ codes) = eqb code doubleCode || hasDouble codes
 
--- from the top: the row below a doubled one isn't searched for 0D itself. Row 0 is none of them
+-- from the top: row 0 is never doubled, and the row below a doubled one isn't searched for 0D itself
 unfoldable pub doubled : List ℕ → ℕ → Bool
 unfolding mayDouble hasDouble rowCodes
 doubled codes zero = false
 doubled codes (suc above) = mayDouble (suc above) && (not (doubled codes above) && hasDouble (rowCodes codes (suc above)))
-
--- ---- a row alone
-
--- on the other rows the code 0D does nothing: it is read as 00, a control code with no effect
-unfoldable pub readAs : Bool → ℕ → ℕ
-readAs counts code = cond (not counts && eqb code doubleCode) 0x00 code
-
--- a row as its codes alone give it, by whether 0D counts on this row
-unfoldable pub alone : Bool → List ℕ → List Cell
-unfolding along start readAs
-alone counts codes = along start (map (readAs counts) codes)
-
-unfoldable pub rowAlone : List ℕ → ℕ → List Cell
-unfolding alone mayDouble rowCodes
-rowAlone codes row = alone (mayDouble row) (rowCodes codes row)
 
 -- ---- what the row below a doubled one shows
 

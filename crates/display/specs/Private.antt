@@ -44,10 +44,10 @@ actsAtOnce code = within 0x09 0x0C code || within 0x18 0x1E code
 abbrev pub firstRow : PageRow
 firstRow = record { end = columns; below = false; counts = false }
 
--- whether the row that ends there is doubled, by what is known of it
+-- whether the row is doubled, by what is known of it
 abbrev pub doubles : PageRow → List ℕ → Bool
 doubles row codes = row .counts && (not (row .below) && hasDouble (take columns (drop (row .end - columns) codes)))
 
--- the row below, whose number is that of the row's end in rows
+-- the row below: its number is this row's end, counted in rows
 abbrev pub nextRow : PageRow → List ℕ → PageRow
 nextRow row codes = record { end = row .end + columns; below = doubles row codes; counts = mayDouble (row .end / columns) }

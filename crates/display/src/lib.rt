@@ -104,9 +104,8 @@ fn answer_if(shown: bool) -> DisplayAnswer
     }
 }
 
-// The cells of a page that is shown, one step for each, and zeros for one that is not: so that one array serves both, is filled where it lies and is not
-// copied. A row below a doubled one is made from the cells above it. Control codes and printed ones go ways of their own, each with its own store, so that
-// little has to be moved where the ways meet.
+// The cells of a page that is shown, one step for each, and zeros for one that is not: one array serves both and is filled where it lies, with no copy for a row. A
+// row below a doubled one is made from the cells above it. Control codes and printed codes each store their own cell, so that little is moved where the branches meet.
 fn cells_of(codes: &[u8], shown: bool) -> [Cell; CELLS]
     requires { ⌜ shown ≡ isPage (now codes) ⌝ }
     ensures { λ r. ⌜ r ≡ displayed (now (codes .entry)) .cells ⌝ }

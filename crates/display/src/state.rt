@@ -22,7 +22,7 @@ pub struct RowState {
     pub separated: bool,
     pub hold: bool,
     pub held: Symbol,
-    // The code of the cell before, 00 where there is none.
+    // The code of the cell before as it was read, 00 where there is none.
     pub before: u8,
 }
 

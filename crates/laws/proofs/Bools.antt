@@ -36,3 +36,7 @@ five a b c d e t =
     let v = both-right b (c && (d && e)) u in
     let w = both-right c (d && e) v in
     (both-left a (b && (c && (d && e))) t, both-left b (c && (d && e)) u, both-left c (d && e) v, both-left d e w, both-right d e w)
+
+pub or-assoc : (a b c : Bool) → (a || b) || c ≡ a || (b || c)
+or-assoc true b c = refl
+or-assoc false b c = refl

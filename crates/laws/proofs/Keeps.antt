@@ -6,7 +6,7 @@ use Prim.Native.Nat.{ℕ, zero, suc, _^_, _<_}
 use native.Mathlib.Nat.{zero-lt-suc}
 use native.Mathlib.Omega.{arith}
 use lib.Dec.{T, lt→ltb}
-use lib.ListN.{length, getD, take, replicate}
+use lib.ListN.{length, getD, take, drop, replicate}
 use Rattle.laws.specs.Every.{every, everyPair}
 use Rattle.laws.specs.Fields.{fits}
 use Rattle.laws.proofs.Bools.{both-left, both-right}
@@ -50,6 +50,12 @@ module _ {A : Type 0} (test : A → Bool) where
   every-take (suc n) [] t = tt
   every-take (suc n) (x ∷ xs) t =
       both (test x) (every test (take n xs)) (both-left (test x) (every test xs) t) (every-take n xs (both-right (test x) (every test xs) t))
+
+  pub every-drop : (n : ℕ) (xs : List A) → T (every test xs) → T (every test (drop n xs))
+  unfolding every
+  every-drop zero xs t = t
+  every-drop (suc n) [] t = t
+  every-drop (suc n) (x ∷ xs) t = every-drop n xs (both-right (test x) (every test xs) t)
 
 pub every-map : {A B : Type 0} (before : A → Bool) (after : B → Bool) (f : A → B) → ((a : A) → T (before a) → T (after (f a)))
     → (xs : List A) → T (every before xs) → T (every after (map f xs))

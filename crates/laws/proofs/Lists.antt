@@ -1,11 +1,11 @@
 -- What lists need beyond the kit's library.
 use mathlib.Core.Path.{_≡_, refl, ap, _∙_}
 use mathlib.Core.List.{List, [], _∷_, map}
-use Prim.Native.Nat.{ℕ, zero, suc, _+_, _<_, _≤_, min}
+use Prim.Native.Nat.{ℕ, zero, suc, _+_, _-_, _<_, _≤_, min}
 use native.Mathlib.Nat.{le-of-suc-le-suc, min-zero, not-suc-le-zero, suc-min-suc, zero-min}
 use native.Mathlib.Omega.{arith}
 use borrow.Author.Count.{below-more}
-use lib.ListN.{length, getD, set, take, drop, length-take, length-drop}
+use lib.ListN.{length, getD, set, take, drop, replicate, length-take, length-drop}
 use lib.Seq.{getD-take, getD-drop, getD-set-same, getD-set-other}
 
 -- an element of a mapped list, whatever the defaults
@@ -24,6 +24,17 @@ pub drop-min : (n : ℕ) (xs : List ℕ) → drop (min n (length xs)) xs ≡ dro
 drop-min zero xs = ap (λ (k : ℕ). drop k xs) (zero-min (length xs))
 drop-min (suc n) [] = ap (λ (k : ℕ). drop {A = ℕ} k []) (min-zero (suc n))
 drop-min (suc n) (x ∷ xs) = ap (λ (k : ℕ). drop k (x ∷ xs)) (suc-min-suc n (length xs)) ∙ drop-min n xs
+
+-- some of the same element again and again
+pub take-replicate : {A : Type 0} (n m : ℕ) (a : A) → n ≤ m → take n (replicate m a) ≡ replicate n a
+take-replicate zero m a h = refl
+take-replicate (suc n) zero a h = absurd (not-suc-le-zero h)
+take-replicate (suc n) (suc m) a h = ap (λ xs. a ∷ xs) (take-replicate n m a (le-of-suc-le-suc h))
+
+pub drop-replicate : {A : Type 0} (n m : ℕ) (a : A) → drop n (replicate m a) ≡ replicate (m - n) a
+drop-replicate zero m a = ap (λ (k : ℕ). replicate k a) (let e : m ≡ m - 0 = omega arith in e)
+drop-replicate (suc n) zero a = ap (λ (k : ℕ). replicate k a) (let e : 0 ≡ 0 - suc n = omega arith in e)
+drop-replicate (suc n) (suc m) a = drop-replicate n m a ∙ ap (λ (k : ℕ). replicate k a) (let e : m - n ≡ suc m - suc n = omega arith in e)
 
 -- a part of a list: `count` elements from the place `from` on
 module _ {A : Type 0} (xs : List A) (from count : ℕ) where

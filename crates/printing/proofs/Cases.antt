@@ -25,6 +25,7 @@ unfolding cellByte along start
 letters = refl
 
 -- below a headline: a lower half prints its letter again, and nothing stands under what is not double
-pub lower-again : map cellByte (map under (along start (0x41 ∷ 0x0D ∷ 0x42 ∷ 0x43 ∷ 0x0C ∷ 0x44 ∷ []))) ≡ 0x20 ∷ 0x20 ∷ 0x42 ∷ 0x43 ∷ 0x20 ∷ 0x20 ∷ []
+pub lower-again : map cellByte (map under (along start (0x41 ∷ 0x0D ∷ 0x42 ∷ 0x43 ∷ 0x0C ∷ 0x44 ∷ [])))
+    ≡ 0x20 ∷ 0x20 ∷ 0x42 ∷ 0x43 ∷ 0x20 ∷ 0x20 ∷ []
 unfolding cellByte under along start
 lower-again = refl

@@ -4,9 +4,9 @@ use mathlib.Core.List.{List, _++_, append-assoc, append-nil, map}
 use Prim.Native.Nat.{ℕ, zero, suc, _+_, _-_, _*_, _/_, _<_, _≤_}
 use native.Mathlib.Numerals.{add-one}
 use native.Mathlib.Omega.{arith}
-use lib.ListN.{length, getD, set, take, drop, replicate, length-append, length-drop, length-map, length-replicate, length-set, length-take}
+use lib.ListN.{length, getD, set, take, drop, replicate, length-append, length-drop, length-map, length-replicate, length-take}
 use lib.Seq.{take-all, take-at, drop-at, drop-drop, paste, paste-zero, paste-suc}
-use Rattle.laws.proofs.Lists.{getD-map, getD-part, length-part}
+use Rattle.laws.proofs.Lists.{drop-replicate, getD-map, getD-part, length-part}
 use Rattle.grid.specs.Grid.{cellCount, columns, rows}
 use Rattle.display.specs.Display.{zeroCell}
 use Rattle.display.specs.Pages.{pageCells}
@@ -74,12 +74,6 @@ lines-more (suc row) cells =
 feeds : ℕ → List ℕ
 feeds count = replicate count 0x0A
 
-feeds-dropped : (k n : ℕ) → drop k (feeds n) ≡ feeds (n - k)
-unfolding feeds
-feeds-dropped zero n = ap feeds (let e : n ≡ n - 0 = omega arith in e)
-feeds-dropped (suc k) zero = ap feeds (let e : 0 ≡ 0 - suc k = omega arith in e)
-feeds-dropped (suc k) (suc n) = feeds-dropped k n ∙ ap feeds (let e : n - k ≡ suc n - suc k = omega arith in e)
-
 upTo : List Cell → ℕ → List ℕ
 upTo cells row = linesText row cells ++ feeds (lineSize * (rows - row))
 
@@ -102,11 +96,6 @@ module _ (cells : List Cell) where
   pub one-laid : (place : ℕ) → set (laid place) (place + place / columns) (cellByte (getD cells place zeroCell)) ≡ laid (place + 1)
   unfolding laid
   one-laid place = ap laid (sym (add-one place))
-
-  pub laid-length : (place : ℕ) → length (laid place) ≡ pageSize
-  unfolding laid
-  laid-length zero = length-replicate {A = ℕ} pageSize 0x0A
-  laid-length (suc place) = length-set (laid place) (place + place / columns) (cellByte (getD cells place zeroCell)) ∙ laid-length place
 
 -- ---- which is the same
 
@@ -139,7 +128,7 @@ module _ (cells : List Cell) (whole : length cells ≡ cellCount) where
         let left : lineSize * (rows - row) - columns ≡ suc (lineSize * (rows - (row + 1))) = omega arith in
         sym (drop-drop columns (lineSize * row) (upTo cells row))
         ∙ (ap (drop columns) (drop-at (linesText row cells) (feeds (lineSize * (rows - row))) (lineSize * row) long)
-        ∙ (feeds-dropped columns (lineSize * (rows - row)) ∙ ap feeds left))
+        ∙ (drop-replicate columns (lineSize * (rows - row)) 0x0A ∙ ap feeds left))
 
     one-more : upTo cells (row + 1) ≡ before ++ (rowBytes cells row ++ (lineFeed ++ behind))
     unfolding upTo before behind lineText
@@ -160,7 +149,8 @@ module _ (cells : List Cell) (whole : length cells ≡ cellCount) where
 
   part-laid : (row : ℕ) → row < rows → laid cells (columns * row) ≡ upTo cells row → (column : ℕ) → column ≤ columns
       → laid cells (columns * row + column) ≡ paste (upTo cells row) (lineSize * row) (rowBytes cells row) column
-  part-laid row h done zero k = ap (laid cells) (let e : columns * row + 0 ≡ columns * row = omega arith in e) ∙ (done ∙ paste-zero (upTo cells row) (lineSize * row) (rowBytes cells row))
+  part-laid row h done zero k =
+      ap (laid cells) (let e : columns * row + 0 ≡ columns * row = omega arith in e) ∙ (done ∙ paste-zero (upTo cells row) (lineSize * row) (rowBytes cells row))
   part-laid row h done (suc column) k =
       let text = upTo cells row in
       let bytes = rowBytes cells row in

@@ -1,5 +1,5 @@
 -- Document 01, "Programs": the page printer prints "?" for mosaics and 7F, and concealed letters as letters. A control code prints what its cell shows: a space, or
--- "?" where it shows a held mosaic. A lower half prints its letter again.
+-- "?" where it shows a held mosaic. By request 1 of document 02 a lower half prints its letter again.
 use mathlib.Core.Bool.{cond}
 use mathlib.Core.List.{List}
 use Prim.Native.Nat.{ℕ}

@@ -41,7 +41,7 @@ fn byte_of(symbol: Symbol) -> u8
     }
 }
 
-// The lines of a page's cells. The text starts as line feeds alone, so that each cell needs only its byte: behind it are the bytes of the cells before it and a line
+// The lines of a page's cells. The text starts as line feeds alone, so that each cell needs only its byte: before it stand the bytes of the earlier cells and a line
 // feed for each row that has ended.
 fn text_of(cells: [Cell; CELLS]) -> [u8; PAGE]
     requires { ⌜ length cells ≡ cellCount ⌝ }

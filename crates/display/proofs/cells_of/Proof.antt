@@ -1,8 +1,9 @@
 -- `display::cells_of` meets its contract. The loop's invariant: the cells so far are the page's (`Reached`), of a page that is shown.
 use mathlib.Core.Path.{_≡_, refl, sym, _∙_, ap}
 use mathlib.Core.Bool.{Bool, cond}
+use mathlib.Core.List.{List}
 use mathlib.Core.Logic.{⊎-elim}
-use Prim.Native.Nat.{_+_, _<_, _≤_, _-_}
+use Prim.Native.Nat.{ℕ, _+_, _<_, _≤_, _-_}
 use native.Mathlib.Omega.{arith}
 use borrow.Author.Needs.{needs}
 use lib.ListN.{length}
@@ -12,7 +13,22 @@ use Rattle.display.specs.Pages.{isPage}
 use Rattle.display.proofs.Pages.{all-shown}
 use Rattle.display.proofs.Codes.{control-cell, control-next}
 use Rattle.display.proofs.Steps.{low-as, read-control, read-printed}
-use Rattle.display.proofs.Walks.{Ahead, Filled, Reached, begun, above-there, cell-alone, ahead-alone, cell-under, ahead-under, stored, filled-as, next-column, next-row, at-end}
+use Rattle.display.proofs.Walks.{
+  Ahead,
+  Filled,
+  Reached,
+  begun,
+  above-there,
+  cell-alone,
+  ahead-alone,
+  cell-under,
+  ahead-under,
+  stored,
+  filled-as,
+  next-column,
+  next-row,
+  at-end,
+}
 use Rattle.display.proofs.cells_of.Statement.{statement}
 use Rattle.display.proofs.cells_of.Tie as tie
 
@@ -44,14 +60,16 @@ loop-holds c =
       rw (c .start .ensures, c .before .first .ensures, c .before .before .zero-cells .ensures) (begun _),
     )
 
--- in the loop all of the page's codes are there, and the row ends within them
+-- the page's codes, at a turn of the loop
+abbrev codes-at : tie.Then1 Inv-loop μ-loop → List ℕ
+codes-at c = c .before .before .before .before .before .before .before .before .args .codes .now
+
+-- in the loop all of them are there, and the row ends within them
 inside : (c : tie.Then1 Inv-loop μ-loop)
-    → (length (c .before .before .before .before .before .before .before .before .args .codes .now) ≡ cellCount)
-    × (c .before .before .loop .place < cellCount)
-    × (c .before .before .loop .row .end ≤ cellCount)
+    → (length (codes-at c) ≡ cellCount) × (c .before .before .loop .place < cellCount) × (c .before .before .loop .row .end ≤ cellCount)
 inside c =
     let loop = c .before .before .loop in
-    let codes = c .before .before .before .before .before .before .before .before .args .codes .now in
+    let codes = codes-at c in
     let here = loop .inv .2 .here in
     let column = loop .inv .2 .inside in
     let end = loop .inv .2 .end in
@@ -132,16 +150,14 @@ start-requires-2 : tie.Need-start-requires-2 Inv-loop μ-loop
 start-requires-2 c κs = search needs
 
 -- the cell that is due here is stored, and what is then ahead: of a row below a doubled one, of a control code and of a printed one
-after-cell : (c : tie.Joined2 Inv-loop μ-loop)
-    → Filled (c .before .before .before .before .before .before .before .before .before .before .args .codes .now) (c .before .before .before .before .loop .place + 1) (c .if2 .cells)
-    × Ahead (c .before .before .before .before .before .before .before .before .before .before .args .codes .now)
-    (c .before .before .before .before .loop .inv .2 .number) (c .before .before .before .before .loop .inv .2 .column + 1) (c .if2 .state)
+after-cell : (c : tie.Joined2 Inv-loop μ-loop) → (let turn = c .before .before in let loop = turn .before .before .loop in
+    Filled (codes-at turn) (loop .place + 1) (c .if2 .cells) × Ahead (codes-at turn) (loop .inv .2 .number) (loop .inv .2 .column + 1) (c .if2 .state))
 after-cell c =
     let turn = c .before .before in
     let state = turn .before .before .loop .state in
     let counts = turn .before .before .loop .row .counts in
     let known = turn .before .before .loop .inv .2 in
-    let codes = turn .before .before .before .before .before .before .before .before .args .codes .now in
+    let codes = codes-at turn in
     let all = inside turn in
     let put = stored codes (all .0) known (all .1) in
     ⊎-elim
