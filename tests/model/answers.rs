@@ -1,12 +1,14 @@
 //! The answer to a case, worked out from the case's own bytes.
 
-use crate::bits::{character, framing_passes, message, test_a, test_b, test_c, test_d, turned};
+use crate::bits::{character, character_byte, framing_passes, message, test_a, test_b, test_c, test_d, turned, SENT};
 use crate::display::{display, Cell, Height, Symbol};
 use crate::field::{list, search, unit_from, Found};
-use crate::packet::{address, data_line_refusal, forty, header, zero_header, Address};
+use crate::packet::{address, data_line_refusal, forty, header, packet_of_line, zero_header, Address};
 use crate::receiver::{new_receiver, play, receive_line, receive_line_lent, receive_packet, Answer, Receiver};
 use crate::record::{read_page, write_page};
+use crate::send::{header_line, row_line};
 use crate::text::*;
+use crate::transmission::{send_page, CHOOSABLE};
 
 /// In the place of a message, a character or a header that is not read.
 const REFUSED: u8 = 0xFF;
@@ -25,10 +27,13 @@ pub fn answer(case: &Case) -> Vec<u8> {
         'f' => search_answer(x),
         'u' => unit_answer(x),
         'g' => display_answer(x),
+        'e' => protected_answer(x),
+        'k' => packets_answer(x),
         's' => selection_answer(x),
         'r' => run_answer(x, record),
         'w' => writer_answer(x, record),
         'd' => reader_answer(x),
+        't' => sender_answer(x, record),
         _ => panic!("no such sort"),
     }
 }
@@ -190,5 +195,30 @@ fn reader_answer(x: &[u8]) -> Vec<u8> {
     let (number, page) = read_page(x);
     let mut out = vec![number];
     out.extend(page_bytes(&page));
+    out
+}
+
+/// Sort e: an input that is empty is read as a zero.
+fn protected_answer(x: &[u8]) -> Vec<u8> {
+    let byte = x.first().copied().unwrap_or(0);
+    vec![SENT[(byte % 16) as usize], character_byte(byte)]
+}
+
+/// Sort k: a number too large for its bits goes by its low bits; what is not there is zeros.
+fn packets_answer(x: &[u8]) -> Vec<u8> {
+    let mut x = x.to_vec();
+    x.resize(50, 0);
+    let (magazine, row, text) = (x[0] % 8, x[1] % 32, &x[10..50]);
+    let of_row = row_line(magazine, row, text);
+    let of_header = header_line(magazine, &header_of(&x[2..10]), &text[8..]);
+    [packet_of_line(&of_row), packet_of_line(&of_header)].concat()
+}
+
+/// Sort t.
+fn sender_answer(x: &[u8], mut room: Vec<u8>) -> Vec<u8> {
+    let record = x.get(CHOOSABLE..).unwrap_or_default();
+    let (number, lines) = send_page(record, &wanted_of(x), &mut room);
+    let mut out = vec![number, lines];
+    out.extend(room);
     out
 }

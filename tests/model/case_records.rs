@@ -3,12 +3,12 @@
 use crate::case_receivers::{lawful_cells, spoil_cell};
 use crate::random::Random;
 use crate::receiver::{new_receiver, SPACE};
-use crate::record::{write_page, zero_page, Page, CELLS, RECORD_LENGTH};
+use crate::record::{record_of, zero_page, Page, CELLS, RECORD_LENGTH};
 use crate::send::{any_selection, matching_header};
 use crate::text::{page_bytes, Case};
 
 /// A lawful page, parts now and then at their edges.
-fn lawful_page(random: &mut Random) -> Page {
+pub fn lawful_page(random: &mut Random) -> Page {
     let selection = any_selection(random);
     let (_, receiver) = new_receiver(&selection);
     let mut page = zero_page();
@@ -120,15 +120,8 @@ pub fn page_to_write(i: u64, random: &mut Random) -> Case {
     Case::lent('w', page_bytes(&page), record)
 }
 
-/// The record of a page that is lawful.
-fn record_of(page: &Page) -> Vec<u8> {
-    let mut record = vec![0; RECORD_LENGTH];
-    assert_eq!(write_page(page, &mut record), 0);
-    record
-}
-
 /// Put so many bits into a record, most significant first.
-fn set_bits(record: &mut [u8], place: usize, count: usize, value: u16) {
+pub fn set_bits(record: &mut [u8], place: usize, count: usize, value: u16) {
     for k in 0..count {
         let bit = ((value >> (count - 1 - k)) & 1) as u8;
         let at = place + k;
@@ -137,7 +130,7 @@ fn set_bits(record: &mut [u8], place: usize, count: usize, value: u16) {
 }
 
 /// Put a mark and a character into a record's cell.
-fn set_cell(record: &mut [u8], cell: usize, mark: u16, character: u16) {
+pub fn set_cell(record: &mut [u8], cell: usize, mark: u16, character: u16) {
     set_bits(record, 40 + 9 * cell, 2, mark);
     set_bits(record, 42 + 9 * cell, 7, character);
 }
@@ -162,8 +155,8 @@ fn spoil_record(record: &mut [u8], random: &mut Random) {
     }
 }
 
-/// Sort d: records as written, with one part or two spoiled, a bit changed, random, wrong lengths.
-pub fn record_to_read(i: u64, random: &mut Random) -> Case {
+/// Records as written, with one part or two spoiled, a bit changed, random, wrong lengths.
+pub fn some_record(i: u64, random: &mut Random) -> Vec<u8> {
     let mut record = record_of(&lawful_page(random));
     match i % 14 {
         0..=2 => {}
@@ -188,5 +181,10 @@ pub fn record_to_read(i: u64, random: &mut Random) -> Case {
             record[..5].copy_from_slice(&first_five);
         }
     }
-    Case::lent('d', record, Vec::new())
+    record
+}
+
+/// Sort d.
+pub fn record_to_read(i: u64, random: &mut Random) -> Case {
+    Case::lent('d', some_record(i, random), Vec::new())
 }

@@ -1,12 +1,14 @@
-//! The makers of cases, and how many cases each makes. A maker's letter is the sort that it makes, or, of the runs (sort r), the entry of their steps.
+//! The makers of cases, and how many cases each makes. A maker's letter is the sort that it makes, or, of the runs
+//! (sort r), the entry of their steps. Two letters are neither: e makes runs of lines one by one, and so h (for
+//! Hamming) makes sort e.
 
 use crate::random::Random;
 use crate::text::Case;
-use crate::{case_fields, case_lines, case_pages, case_receivers, case_records, case_sequences};
+use crate::{case_fields, case_lines, case_pages, case_receivers, case_records, case_sending, case_sequences};
 
-pub const MAKERS: &str = "bnaslmperwdfug";
+pub const MAKERS: &str = "bnaslmperwdfughkt";
 
-/// The share of each maker, in parts of the whole; b always makes 256 cases.
+/// The share of each maker, in parts of the whole.
 fn weight(maker: char) -> u64 {
     match maker {
         'n' => 70,
@@ -21,7 +23,9 @@ fn weight(maker: char) -> u64 {
         'd' => 90,
         'f' => 130,
         'u' => 80,
-        'g' => 110,
+        'g' => 121,
+        'k' => 34,
+        't' => 72,
         _ => 0,
     }
 }
@@ -29,14 +33,23 @@ fn weight(maker: char) -> u64 {
 /// A page (sort g) counts as so many cases: its answer has 7,681 bytes, and it shows 24 rows at once. At COUNT 50000 some 330 are made, of 8,000 rows.
 const CASES_FOR_A_PAGE: u64 = 16;
 
+/// How many cases a maker makes whatever COUNT is: every byte, and the pages sent that are counted out.
+fn always(maker: char) -> u64 {
+    match maker {
+        'b' | 'h' => 256,
+        't' => case_sending::counted_out(),
+        _ => 0,
+    }
+}
+
 /// How many cases a maker makes, where COUNT is shared out over the makers asked for.
 pub fn share(maker: char, count: u64, makers: &str) -> u64 {
-    if maker == 'b' {
-        return 256;
+    if weight(maker) == 0 {
+        return always(maker);
     }
     let whole: u64 = MAKERS.chars().filter(|m| makers.contains(*m)).map(weight).sum();
     let for_one = if maker == 'g' { CASES_FOR_A_PAGE } else { 1 };
-    std::cmp::max(1, count * weight(maker) / whole / for_one)
+    always(maker) + std::cmp::max(1, count * weight(maker) / whole / for_one)
 }
 
 /// The case with this number among those of its maker.
@@ -53,6 +66,9 @@ pub fn case(maker: char, i: u64, random: &mut Random) -> Case {
         'd' => case_records::record_to_read(i, random),
         'f' | 'u' => case_fields::field_and_place(maker, i, random),
         'g' => Case::alone('g', case_pages::page(i, random)),
+        'h' => Case::alone('e', vec![i as u8]),
+        'k' => Case::alone('k', case_sending::packets_to_make(i, random)),
+        't' => case_sending::page_sent(i, random),
         _ => panic!("no such maker"),
     }
 }

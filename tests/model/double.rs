@@ -2,6 +2,7 @@
 
 use crate::case_pages::lawful_page;
 use crate::display::{display, Cell, Height, Symbol};
+use crate::laws::{print_over, Law};
 use crate::random::Random;
 use crate::record::{CELLS, COLUMNS, ROWS};
 
@@ -100,28 +101,16 @@ fn uppers(page: &Displayed) -> Vec<bool> {
     (0..ROWS).filter(|row| page.has_upper(*row)).map(next_has_none).collect()
 }
 
-/// A law: of a page, whether it held, each time that it was asked.
-type Law = fn(&Displayed) -> Vec<bool>;
-
-const LAWS: [(&str, Law); 5] =
+const LAWS: [(&str, Law<Displayed>); 5] =
     [("ends", ends), ("alone", alone), ("halves", halves), ("spaces", spaces), ("uppers", uppers)];
 
 /// Print how often each law was asked and how often it failed.
 pub fn print(seed: u64, count: u64) {
     let mut random = Random::new(seed, 'H');
-    let mut counts = [(0, 0); LAWS.len()];
-    for i in 0..count {
+    let displayed = |i| {
         let codes = lawful_page(i, &mut random);
         let cells = display(&codes).1;
-        let page = Displayed { codes, cells };
-        for ((asked, failed), (_, law)) in counts.iter_mut().zip(LAWS) {
-            let held = law(&page);
-            *asked += held.len();
-            *failed += held.iter().filter(|holds| !**holds).count();
-        }
-    }
-    let words = |((name, _), (asked, failed)): (&(&str, Law), (usize, usize))| {
-        format!("law {} asked {} times, failed {}", name, asked, failed)
+        Displayed { codes, cells }
     };
-    println!("{}", LAWS.iter().zip(counts).map(words).collect::<Vec<String>>().join("; "));
+    print_over(&LAWS, (0..count).map(displayed));
 }

@@ -7,10 +7,10 @@ import sys
 ROOT = os.path.dirname(os.path.dirname(os.path.dirname(os.path.abspath(__file__))))
 
 # Which program answers which sorts, in the order of FORMAT.md.
-PROGRAMS = {"decode": "bnafug", "replay": "srwd"}
+PROGRAMS = {"decode": "bnafugek", "replay": "srwdt"}
 SORTS = "".join(PROGRAMS.values())
 
-# A case: its sort, and its parts as bytes: the input and, for `replay`, the record that is lent.
+# A case: its sort, and its parts as bytes: the input and, for `replay`, the record (for sort t the room) that is lent.
 Case = collections.namedtuple("Case", "sort parts")
 
 ROWS = 24
@@ -26,6 +26,7 @@ RECEIVER = SELECTION + [("page open", 1), ("doubt", 1)] + HEADER + CHARACTERS
 PAGE = [("magazine", 1), ("zeros", 7), ("clean", 1), ("zero", 1)] + HEADER + CHARACTERS
 ANSWER = [("number", 1), ("kind", 1), ("count", 1), ("closing", 1)]
 NUMBER = [("number", 1)]
+WANTED = [("rows wanted", ROWS - 1)]
 
 
 def size(parts):
@@ -65,15 +66,17 @@ def steps_of(case):
 
 def input_parts(case):
     """The parts of a case's input and of its record, each a name and bytes."""
-    first = {"f": [("place", 8)], "u": [("place", 8)], "s": SELECTION, "r": RECEIVER, "w": PAGE}.get(case.sort, [])
+    place, numbers = [("place", 8)], [("magazine", 1), ("row", 1)] + HEADER
+    first = {"f": place, "u": place, "k": numbers, "s": SELECTION, "r": RECEIVER, "w": PAGE, "t": WANTED}.get(case.sort, [])
     found, at = [], 0
     for name, length in first:
         found.append((name, case.parts[0][at:at + length]))
         at += length
     if case.sort == "r":
         return found + [(f"step {n}, entry {entry}", data) for n, (entry, data) in enumerate(steps_of(case))] + [("record", case.parts[1])]
-    rest = "codes" if case.sort == "g" else "the rest"
-    return found + [(rest, case.parts[0][at:])] + [("record", part) for part in case.parts[1:]]
+    rest = {"g": "codes", "k": "characters", "t": "record"}.get(case.sort, "the rest")
+    lent = "room" if case.sort == "t" else "record"
+    return found + [(rest, case.parts[0][at:])] + [(lent, part) for part in case.parts[1:]]
 
 
 def answer_parts(case):
@@ -91,9 +94,12 @@ def answer_parts(case):
         "f": NUMBER + [("parity", 1), ("offset", 1), ("place", 4), ("after", 4)],
         "u": NUMBER + [("id", 1), ("length", 1), ("place", 4), ("after", 4)],
         "g": NUMBER + [(f"row {row}, cell {column}", 8) for row in range(ROWS) for column in range(COLUMNS)],
+        "e": [("Hamming byte", 1), ("character byte", 1)],
+        "k": [("row: address", 2), ("row: text", COLUMNS), ("header: address", 2), ("header: messages", 8), ("header: text", COLUMNS - 8)],
         "s": NUMBER + RECEIVER,
         "w": NUMBER + record,
         "d": NUMBER + PAGE,
+        "t": NUMBER + [("count of lines", 1)] + [("room", len(part)) for part in case.parts[1:]],
     }[case.sort]
 
 

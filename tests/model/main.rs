@@ -1,11 +1,12 @@
-//! An independent model of document 01 and of request 1 of document 02: prints seeded cases, each
-//! with the answer expected.
+//! An independent model of document 01 and of requests 1 and 2 of document 02: prints seeded cases,
+//! each with the answer expected.
 //!
 //! `model SEED COUNT [MAKERS]` prints about COUNT cases, of which a page to be displayed counts as
-//! several, shared out over the makers asked for (all where none are named): a case line, then "= "
-//! and its answer, as FORMAT.md has them. `model marked` checks the marked cases. `model demand SEED
-//! COUNT` checks the two laws on clean closings over random runs, `model double SEED COUNT` those on
-//! double height over random pages.
+//! several, shared out over the makers asked for (all where none are named), and besides them those
+//! that are always made: a case line, then "= " and its answer, as FORMAT.md has them. `model marked`
+//! checks the marked cases. `model demand SEED COUNT` checks the two laws on clean closings over
+//! random runs, `model double SEED COUNT` those on double height over random pages, `model sending
+//! SEED COUNT` those on pages sent and received again.
 
 mod answers;
 mod bits;
@@ -14,19 +15,23 @@ mod case_lines;
 mod case_pages;
 mod case_receivers;
 mod case_records;
+mod case_sending;
 mod case_sequences;
 mod cases;
 mod demand;
 mod display;
 mod double;
 mod field;
+mod laws;
 mod marked;
 mod packet;
 mod random;
 mod receiver;
 mod record;
 mod send;
+mod sending;
 mod text;
+mod transmission;
 
 use std::io::{BufWriter, Write};
 
@@ -55,8 +60,9 @@ fn main() {
         ["marked"] => marked::print(),
         ["demand", seed, count] => demand::print(number(seed), number(count)),
         ["double", seed, count] => double::print(number(seed), number(count)),
+        ["sending", seed, count] => sending::print(number(seed), number(count)),
         [seed, count] => print_cases(number(seed), number(count), cases::MAKERS),
         [seed, count, makers] => print_cases(number(seed), number(count), makers),
-        _ => println!("model SEED COUNT [MAKERS] | model marked | model demand SEED COUNT | model double SEED COUNT"),
+        _ => println!("model SEED COUNT [MAKERS] | model marked | model demand|double|sending SEED COUNT"),
     }
 }

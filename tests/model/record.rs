@@ -136,6 +136,13 @@ pub fn write_page(page: &Page, record: &mut [u8]) -> u8 {
     number
 }
 
+/// The record of a page that is lawful.
+pub fn record_of(page: &Page) -> Vec<u8> {
+    let mut record = vec![0; RECORD_LENGTH];
+    assert_eq!(write_page(page, &mut record), 0);
+    record
+}
+
 /// The bits of a record, one by one, with the place of the next to be taken.
 struct Taker {
     bits: Vec<u8>,

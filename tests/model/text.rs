@@ -3,6 +3,7 @@
 use crate::packet::{zero_header, Header};
 use crate::receiver::{Answer, Receiver, Selection, TimeCode};
 use crate::record::{Page, CELLS};
+use crate::transmission::Wanted;
 
 pub const RECEIVER_LENGTH: usize = 1938;
 
@@ -20,7 +21,7 @@ pub fn hex(bytes: &[u8]) -> String {
     out
 }
 
-/// A case: its sort, its input, and the record that is lent, if the sort has one.
+/// A case: its sort, its input, and the record (of sort t the room) that is lent, if the sort has one.
 pub struct Case {
     pub sort: char,
     pub input: Vec<u8>,
@@ -138,6 +139,11 @@ pub fn page_of(x: &[u8]) -> Page {
         characters: receiver.characters,
         marks: receiver.marks,
     }
+}
+
+/// WANTED back: a 1 is yes, all else is no, and so is what is not there.
+pub fn wanted_of(x: &[u8]) -> Wanted {
+    std::array::from_fn(|k| x.get(k) == Some(&1))
 }
 
 /// A place, 8 bytes, high byte first.

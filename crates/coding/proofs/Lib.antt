@@ -4,3 +4,4 @@ pub mod Hamming
 pub mod Heard
 pub mod Turning
 pub mod Unique
+pub mod Written

@@ -14,6 +14,10 @@ use Rattle.coding.proofs.framing_passes as framing-passes
 use Rattle.coding.proofs.framing_passes.Reads as framing-passes-reads
 use Rattle.coding.proofs.message_of as message-of
 use Rattle.coding.proofs.message_of.Reads as message-of-reads
+use Rattle.coding.proofs.sent_character as sent-character
+use Rattle.coding.proofs.sent_character.Reads as sent-character-reads
+use Rattle.coding.proofs.sent_message as sent-message
+use Rattle.coding.proofs.sent_message.Reads as sent-message-reads
 use Rattle.coding.proofs.tests_of as tests-of
 use Rattle.coding.proofs.tests_of.Reads as tests-of-reads
 use Rattle.coding.proofs.turned as turned
@@ -46,3 +50,9 @@ character-back character.Even = refl
 
 pub character-of-unique : Unique character-of.ended character-of-reads.Post
 character-of-unique κs a r r′ ws ws′ p q = (told-apart characterPaper (paperBack character.Good character.Even) character-back r r′ (p ∙ sym q), refl)
+
+pub sent-message-unique : Unique sent-message.ended sent-message-reads.Post
+sent-message-unique κs a r r′ ws ws′ p q = (p ∙ sym q, refl)
+
+pub sent-character-unique : Unique sent-character.ended sent-character-reads.Post
+sent-character-unique κs a r r′ ws ws′ p q = (p ∙ sym q, refl)

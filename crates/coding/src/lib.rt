@@ -3,10 +3,11 @@
 mod table;
 
 ghost use mathlib.Core.Path.{_≡_};
+ghost use Prim.Native.Nat.{_%_};
 ghost use Rattle.laws.specs.Paper.{oneOrNone};
 ghost use Rattle.coding.specs.Bits.{turnedByte, framingPasses};
-ghost use Rattle.coding.specs.Characters.{character, characterPaper};
-ghost use Rattle.coding.specs.Hamming.{message, messagePaper, testsOf};
+ghost use Rattle.coding.specs.Characters.{character, characterPaper, sentCharacter};
+ghost use Rattle.coding.specs.Hamming.{message, messagePaper, sentMessage, testsOf};
 use table::DECODED;
 use table::REFUSED;
 
@@ -81,5 +82,29 @@ pub fn character_of(byte: u8) -> Character
         Character::Good(byte % 128)
     } else {
         Character::Even
+    }
+}
+
+// The Hamming byte of the message in a number's low four bits. Each bit that is set changes the byte of message 0 in the same places, whatever the others
+// are, so that no table is asked.
+pub fn sent_message(message: u8) -> u8
+    ensures { λ r. ⌜ r ≡ sentMessage (message % 16) ⌝ }
+{
+    let first = (message % 2) * 0x17;
+    let second = (message / 2 % 2) * 0x5C;
+    let third = (message / 4 % 2) * 0x71;
+    let fourth = (message / 8 % 2) * 0xC5;
+    0x15 ^ first ^ second ^ third ^ fourth
+}
+
+// The byte of odd parity of the character in a number's low seven bits.
+pub fn sent_character(code: u8) -> u8
+    ensures { λ r. ⌜ r ≡ sentCharacter (code % 128) ⌝ }
+{
+    let character = code % 128;
+    if u8::count_ones(character) % 2 == 1 {
+        character
+    } else {
+        character + 128
     }
 }

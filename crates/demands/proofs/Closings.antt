@@ -51,7 +51,7 @@ module _ (row : ℕ) (high : row ≤ lastRow) (xs : List ℕ) (full : length xs 
   unfolding rowPart
   row-cell c h = getD-part xs (row * columns) columns c 0 h
 
-  row-is-list : (from : ℕ) (ys : List ℕ) → length ys ≡ columns → ((c : ℕ) → from ≤ c → c < columns → getD xs (row * columns + c) 0 ≡ getD ys c 0)
+  pub row-is-list : (from : ℕ) (ys : List ℕ) → length ys ≡ columns → ((c : ℕ) → from ≤ c → c < columns → getD xs (row * columns + c) 0 ≡ getD ys c 0)
       → drop from (rowPart row xs) ≡ drop from ys
   row-is-list from ys whole each =
       ext-getD 0 (drop from (rowPart row xs)) (drop from ys)
@@ -79,7 +79,7 @@ row-holds cells full row high none is =
     (λ t. is k below (sym (row-cell row high (cells .marks) (full .1) k below) ∙ fresh-is (getD (rowPart row (cells .marks)) k 0) t)))
 
 -- row 0's columns 0 to 7
-header-columns : (receiver : Receiver) → T (lawful receiver) → Sized (receiver .cells) → take headerColumn (rowPart 0 (receiver .cells .marks)) ≡ replicate headerColumn never
+pub header-columns : (receiver : Receiver) → T (lawful receiver) → Sized (receiver .cells) → take headerColumn (rowPart 0 (receiver .cells .marks)) ≡ replicate headerColumn never
 header-columns receiver is full =
     ext-getD 0 (take headerColumn (rowPart 0 (receiver .cells .marks))) (replicate headerColumn never)
     (length-take headerColumn (rowPart 0 (receiver .cells .marks)) ∙ omega (arith, length-row 0 (omega arith) (receiver .cells .marks) (full .1)))

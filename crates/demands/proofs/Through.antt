@@ -88,11 +88,11 @@ module _ (run : Run) (ready : Ready run) where
   outcomeAt k = taken (receiverAt k) (packetAt k) (lentAt k)
 
   -- each line leaves to the next what its entry gave
-  left-receiver : (k : ℕ) → receiverAt (suc k) ≡ entryAt run k .receiver
+  pub left-receiver : (k : ℕ) → receiverAt (suc k) ≡ entryAt run k .receiver
   unfolding beforeLine entryAt
   left-receiver k = refl
 
-  left-lent : (k : ℕ) → lentAt (suc k) ≡ entryAt run k .lent
+  pub left-lent : (k : ℕ) → lentAt (suc k) ≡ entryAt run k .lent
   unfolding beforeLine entryAt
   left-lent k = refl
 

@@ -1,5 +1,9 @@
+pub mod Back
+pub mod ByRules
 pub mod Bytes
+pub mod Filling
 pub mod Good
+pub mod Packets
 pub mod Papers
 pub mod Sent
 pub mod Unique

@@ -20,6 +20,16 @@ use Rattle.packet.proofs.packet_of as packet-of
 use Rattle.packet.proofs.packet_of.Reads as packet-of-reads
 use Rattle.packet.proofs.text_of as text-of
 use Rattle.packet.proofs.text_of.Reads as text-of-reads
+use Rattle.packet.proofs.writing.address_bytes as address-bytes
+use Rattle.packet.proofs.writing.address_bytes.Reads as address-bytes-reads
+use Rattle.packet.proofs.writing.data_line as data-line
+use Rattle.packet.proofs.writing.data_line.Reads as data-line-reads
+use Rattle.packet.proofs.writing.header_bytes as header-bytes
+use Rattle.packet.proofs.writing.header_bytes.Reads as header-bytes-reads
+use Rattle.packet.proofs.writing.header_packet as header-packet
+use Rattle.packet.proofs.writing.header_packet.Reads as header-packet-reads
+use Rattle.packet.proofs.writing.row_packet as row-packet
+use Rattle.packet.proofs.writing.row_packet.Reads as row-packet-reads
 
 pub message-at-unique : Unique message-at.ended message-at-reads.Post
 message-at-unique κs a r r′ ws ws′ p q = (message-is r r′ (p ∙ sym q), refl)
@@ -43,3 +53,20 @@ header-of-unique κs a r r′ ws ws′ p q = (header-read-is r r′ (p ∙ sym q
 pub text-of-unique : Unique text-of.ended text-of-reads.Post
 text-of-unique κs a r r′ ws ws′ p q =
     (λ i. record { answer = text-read-is (r .answer) (r′ .answer) (p .0 ∙ sym (q .0)) i; bytes = (p .1 ∙ sym (q .1)) i }, refl)
+
+-- ---- what is sent
+
+pub address-bytes-unique : Unique address-bytes.ended address-bytes-reads.Post
+address-bytes-unique κs a r r′ ws ws′ p q = (p ∙ sym q, refl)
+
+pub data-line-unique : Unique data-line.ended data-line-reads.Post
+data-line-unique κs a r r′ ws ws′ p q = (p ∙ sym q, refl)
+
+pub header-bytes-unique : Unique header-bytes.ended header-bytes-reads.Post
+header-bytes-unique κs a r r′ ws ws′ p q = (p ∙ sym q, refl)
+
+pub header-packet-unique : Unique header-packet.ended header-packet-reads.Post
+header-packet-unique κs a r r′ ws ws′ p q = (p ∙ sym q, refl)
+
+pub row-packet-unique : Unique row-packet.ended row-packet-reads.Post
+row-packet-unique κs a r r′ ws ws′ p q = (p ∙ sym q, refl)

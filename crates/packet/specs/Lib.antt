@@ -4,3 +4,4 @@ pub mod Lines
 pub mod Private
 pub mod Sent
 pub mod Texts
+pub mod Writing

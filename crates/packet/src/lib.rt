@@ -1,5 +1,7 @@
 // What a data-line holds: its packet, and the packet's address, header and characters. A packet is lent as it stands in the line; its bytes are turned
 // as they are read.
+mod writing;
+
 ghost use mathlib.Core.Path.{_≡_};
 ghost use mathlib.Core.List.{_∷_, []};
 ghost use lib.ListN.{length};
@@ -16,6 +18,13 @@ ghost use Rattle.packet.specs.Private.{eightOf};
 ghost use Rattle.packet.specs.Texts.{textOf, textPaper};
 use coding::Message;
 use grid::COLUMNS;
+pub use writing::ADDRESS_LENGTH;
+pub use writing::HEADER_LENGTH;
+pub use writing::address_bytes;
+pub use writing::data_line;
+pub use writing::header_bytes;
+pub use writing::header_packet;
+pub use writing::row_packet;
 
 // Bytes of a data-line, and of its packet.
 pub const LINE_LENGTH: usize = 45;

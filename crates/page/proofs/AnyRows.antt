@@ -144,20 +144,20 @@ module _ (n : ℕ) where
     abbrev cells : List ℕ
     cells = cellValues (page .cells .marks) (page .cells .characters)
 
-    parts : (magazineFits (page .magazine) ≡ true) × (headerFits (page .header) ≡ true) × (cellsFit (page .cells) ≡ true)
+    pub parts : (magazineFits (page .magazine) ≡ true) × (headerFits (page .header) ≡ true) × (cellsFit (page .cells) ≡ true)
     unfolding pageFits
     parts =
         let one = both-true (magazineFits (page .magazine)) (headerFits (page .header) && cellsFit (page .cells)) (shown page taken .0) in
         let two = both-true (headerFits (page .header)) (cellsFit (page .cells)) (one .1) in
         (one .0, two .0, two .1)
 
-    magazine-in : (1 ≤ page .magazine) × (page .magazine ≤ 8)
+    pub magazine-in : (1 ≤ page .magazine) × (page .magazine ≤ 8)
     unfolding magazineFits
     magazine-in =
         let ends = both-true (leb 1 (page .magazine)) (leb (page .magazine) 8) (parts .0) in
         (leb-true 1 (page .magazine) (ends .0), leb-true (page .magazine) 8 (ends .1))
 
-    fit-header : Fit headerWidths (headerValues (page .header))
+    pub fit-header : Fit headerWidths (headerValues (page .header))
     unfolding headerFits
     fit-header = fit-tested headerWidths (headerValues (page .header)) (subst T (sym (parts .1)) tt)
 

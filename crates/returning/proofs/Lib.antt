@@ -1,0 +1,9 @@
+pub mod Feeding
+pub mod Given
+pub mod Giving
+pub mod Holding
+pub mod Lines
+pub mod Playing
+pub mod Returned
+pub mod Taken
+pub mod Taking
