@@ -3,6 +3,7 @@
 
     lines: (value | lent | recording) (other | stored | opening | closing | pair) COUNT
     fields: search (15 | 30 | 60) COUNT      records: (write | read) page COUNT      pages: page (letters | controls | doubles | headlines) COUNT
+    pages sent: send (every | none) COUNT, with every row from 1 to 23 or none of them
 
 The bytes come from the file `input` beside this script, and are no constants of the program, so that nothing is worked out beforehand: five pairs of data-lines, which
 are taken in turn, two rows of codes, of which pages are made, a field of 60 units, and the record of a page with a header and one row.
@@ -65,6 +66,7 @@ def main(way, work, count):
         "search": lambda: framed(b"f", count, INPUT[530:530 + FIELDS.get(work, 0)]),
         "write": lambda: framed(b"w", count, INPUT[3291:]),
         "read": lambda: framed(b"d", count, INPUT[3291:]),
+        "send": lambda: framed(b"t", count, bytes([work == "every"]) + INPUT[3291:]),
         "page": lambda: framed(b"g", count, PAGES.get(work, b"")),
     }[way]()
 

@@ -4,7 +4,7 @@
     make.py PROGRAM stdin      crates/PROGRAM/stdin
     make.py PROGRAM stdout     what it must write: crates/PROGRAM/stdout
 
-Cases and answers are put together from pieces in hexadecimal that were worked out by hand from document 01 and request 1 of document 02: nothing here computes an answer.
+Cases and answers are put together from pieces in hexadecimal, worked out by hand from document 01 and requests 1 and 2 of document 02: nothing here computes an answer.
 """
 import os
 import sys
@@ -53,6 +53,20 @@ SHOWN = 40 * "20" + HELD + 40 * "20" + HEADLINE + 40 * "41" + 19 * 40 * "20"
 SHOWN_CELLS = BLANK_ROW + HELD_ROW + BLANK_ROW + UPPER_ROW + LOWER_ROW + 19 * BLANK_ROW
 STEP_L, STEP_M, STEP_P, STEP_R = (letter.encode().hex() for letter in "lmpr")
 
+# Forty characters of a packet that is sent: eight letters A (41, with its parity C1, end for end 83) and spaces. A header of page 12 at 34:56 with C4, C5, C7 and C14:
+# its messages are 2, 1, 6, 13, 4, 7, 1 and 8, sent as 49 02 38 B6 64 2F 02 D0. The packets of row 23 of magazine 8 and of its row 0, which has no letter A.
+LETTERS = 8 * "41" + 32 * "20"
+TIMED = "010203040506" + "0681"
+ROW_23 = "0bd9" + 8 * "83" + 32 * "04"
+TIMED_HEADER = "a8a8" + "92401c6d26f4400b" + 32 * "04"
+
+# Row 1 is wanted and no other: 02 is not yes. A line that is sent has the run-in AA AA, and the header has C4: message 8 in the place of minutes tens. A room a byte short
+# of two lines, and one that has three bytes behind them.
+WANTED = "01" + "02" + 21 * "00"
+SENT_START = "aaaae4"
+HEADER_C4 = "40a8" + "a8a8a80b" + 4 * "a8" + 32 * "04"
+SHORT_ROOM, ROOM = 89 * "bb", 93 * "bb"
+
 # Of each program: sort, input, record, answer.
 CASES = {
     "decode": [
@@ -65,6 +79,9 @@ CASES = {
         ("g", SHOWN, None, "00" + SHOWN_CELLS),
         # A code less than a page has.
         ("g", 959 * "20", None, "19" + 960 * (LETTER + 7 * "00")),
+        ("e", "00", None, "15 80"),
+        ("e", "ff", None, "ea 7f"),
+        ("k", "08" + "17" + TIMED + LETTERS, None, ROW_23 + TIMED_HEADER),
         ("x", "", None, "ff"),
     ],
     "replay": [
@@ -80,6 +97,10 @@ CASES = {
          "0002" + "00030001" + RECORD + "0001" + "0a000000" + RECORD + "0000" + "00ff0000" + RECORD + ANY_100 + SHUT + HEADED),
         ("w", PAGE, LENT, "00" + RECORD),
         ("d", RECORD, "", "00" + PAGE),
+        ("t", WANTED + RECORD, ROOM, "00 02" + SENT_START + HEADER_C4 + SENT_START + ROW_1 + 3 * "bb"),
+        # In a short room: a record that lacks its last byte, which is asked first, and a good one.
+        ("t", WANTED + RECORD[:-2], SHORT_ROOM, "14 00" + SHORT_ROOM),
+        ("t", WANTED + RECORD, SHORT_ROOM, "1e 00" + SHORT_ROOM),
         ("x", "", "", "ff"),
     ],
 }

@@ -18,6 +18,9 @@ use receiver::Closing;
 use receiver::Receiver;
 use receiver::Selection;
 use receiver::When;
+use sending::CHOICES;
+use sending::LONGEST;
+use sending::Sent;
 
 // Lines are taken two in turn.
 const PAIR: usize = 2 * LINE_LENGTH;
@@ -226,6 +229,35 @@ fn pages_read(record: &[u8], count: usize) -> u8 {
     sum
 }
 
+fn lines_of(sent: Sent) -> u8 {
+    match sent {
+        Sent::Lines(count) => (count % 256) as u8,
+        Sent::WrongLength => 20,
+        Sent::NotZero => 21,
+        Sent::BadDigit => 22,
+        Sent::UnlawfulCells => 23,
+        Sent::ShortRoom => 30,
+    }
+}
+
+fn pages_sent(record: &[u8], wanted: [bool; CHOICES], count: usize) -> u8 {
+    let mut room = [0u8; LONGEST];
+    let mut sum: u8 = 0;
+    let mut turn = 0;
+    while turn < count {
+        let sent = sending::send_page(record, wanted, &mut room);
+        sum = sum ^ lines_of(sent) ^ room[turn % LONGEST];
+        turn += 1;
+    }
+    sum
+}
+
+// Work t: the page of a record is sent: whether every row is wanted or none, and the record.
+fn page_sent(input: &[u8], count: usize) -> u8 {
+    let wanted = [cases::byte_at(input, 0) == 1; CHOICES];
+    pages_sent(cases::rest(input, 1), wanted, count)
+}
+
 fn height_number(height: Height) -> u8 {
     match height {
         Height::Normal => 0,
@@ -269,6 +301,7 @@ fn done(work: u8, input: &[u8], count: usize) -> u8 {
         b'f' => fields_searched(input, count),
         b'w' => page_written(input, count),
         b'd' => pages_read(input, count),
+        b't' => page_sent(input, count),
         b'g' => pages_shown(input, count),
         _ => lines_taken(work, input, count),
     }

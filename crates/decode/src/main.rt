@@ -1,5 +1,6 @@
 // Answers cases of bytes, data-lines, packets, data fields and pages of codes by the library, for its answers to be held to those of others (tests/model/FORMAT.md).
 mod coded;
+mod sent;
 mod shown;
 mod units;
 
@@ -14,6 +15,8 @@ fn answer(sort: u8, input: &[u8]) {
         b'f' => units::answer_search(input),
         b'u' => units::answer_unit(input),
         b'g' => shown::answer_page(input),
+        b'e' => sent::answer_bytes(input),
+        b'k' => sent::answer_packets(input),
         _ => cases::put_byte(UNKNOWN),
     }
 }

@@ -1,7 +1,8 @@
-// Answers cases of receivers and of page records by the library, for its answers to be held to those of others (tests/model/FORMAT.md).
+// Answers cases of receivers, of page records and of pages sent by the library, for its answers to be held to those of others (tests/model/FORMAT.md).
 mod forms;
 mod pages;
 mod runs;
+mod sent;
 
 // The answer to a sort that is not known.
 const UNKNOWN: u8 = 0xFF;
@@ -12,11 +13,12 @@ fn answer(sort: u8, input: &[u8], record: &mut [u8]) {
         b'r' => runs::answer_run(input, record),
         b'w' => pages::answer_written(input, record),
         b'd' => pages::answer_read(input),
+        b't' => sent::answer_sent(input, record),
         _ => cases::put_byte(UNKNOWN),
     }
 }
 
-// One case and its answer; false at the end of the cases. A case has its input and the record that is lent.
+// One case and its answer; false at the end of the cases. A case has its input and the record, or the room, that is lent.
 fn answer_next(line: &mut [u8], room: &mut [u8]) -> bool {
     let sort = cases::next_sort();
     if sort == cases::END {

@@ -80,7 +80,7 @@ module _ (packet : List ℕ) (whole : length packet ≡ packetLength) (magazine 
 -- ---- a page that the reader takes
 
 module _ (page : Page) (taken : Taken page) where
-  characters-whole : (row : ℕ) → row ≤ lastRow → length (rowCharacters page row) ≡ columns
+  pub characters-whole : (row : ℕ) → row ≤ lastRow → length (rowCharacters page row) ≡ columns
   characters-whole = row-characters page (taken .sized)
 
   characters-fit : (row : ℕ) → T (every (fits characterWidth) (rowCharacters page row))
@@ -89,7 +89,7 @@ module _ (page : Page) (taken : Taken page) where
       every-take (fits characterWidth) columns (drop (row * columns) (page .cells .characters))
       (every-drop (fits characterWidth) (row * columns) (page .cells .characters) (taken .characters))
 
-  same-magazine : magazineOf (page .magazine) ≡ page .magazine
+  pub same-magazine : magazineOf (page .magazine) ≡ page .magazine
   same-magazine = magazine-same (page .magazine) (taken .magazine .0) (taken .magazine .1)
 
   -- its header, with C4 set, fits too

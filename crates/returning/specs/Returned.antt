@@ -12,11 +12,14 @@ use Rattle.laws.specs.Every.{every}
 use Rattle.laws.specs.Paper.{accepted}
 use Rattle.grid.specs.Grid.{columns, lastRow}
 use Rattle.packet.specs.Addresses.{addressOf}
+use Rattle.packet.specs.Headers.{headerOf}
 use Rattle.packet.specs.Lines.{framed, packetOf}
 use Rattle.packet.specs.Sent.{sentByRules, sentMagazine, sentRow}
 use Rattle.packet.specs.Texts.{headerColumn}
 use Rattle.packet.specs.declared.Address.the-variants.{Whole}
 use Rattle.packet.specs.declared.Framed.the-variants.{Packet}
+use Rattle.packet.specs.declared.Header.{Header}
+use Rattle.packet.specs.declared.HeaderRead.the-variants.{Good}
 use Rattle.page.specs.Lawful.{fresh, never, space}
 use Rattle.page.specs.Reading.{pageRead, readAnswer}
 use Rattle.page.specs.Records.{recordLength}
@@ -27,6 +30,7 @@ use Rattle.receiver.specs.Recordings.{played, stoppedAt}
 use Rattle.receiver.specs.Selections.{inRange, matches}
 use Rattle.receiver.specs.declared.Closing.the-variants as closing
 use Rattle.receiver.specs.declared.Selection.{Selection}
+use Rattle.sending.specs.Closing.{closingLine}
 use Rattle.sending.specs.Sending.{bytesNeeded, chosenRows, lineCount, linesOf, sentInto, withC4}
 use Rattle.demands.specs.Demands.{recordAfter}
 use Rattle.demands.specs.Runs.{Run, closingOf, entryAt, rowPart}
@@ -116,3 +120,17 @@ PlayedBack =
     → Feeds bytes wanted selection further lent → bytesNeeded wanted ≤ length room
     → played (made selection) (recordingOf bytes wanted room further) lent
     ≡ stoppedAt (entryAt (fedBack bytes wanted selection further lent) (lineCount wanted)) (suc (lineCount wanted))
+
+-- ---- the closing line
+
+-- the line that ends a page is a further one, sent by the rules; its header is no selected page's, so that none is open after it
+pub record Ends (page : Page) : Type 0 where
+  pub rules : T (sentByRules (closingLine page))
+  pub framing : framed (closingLine page) ≡ Packet
+  pub address : addressOf (packetOf (closingLine page)) ≡ Whole (page .magazine) 0
+  pub header : Header
+  pub numbers : headerOf (packetOf (closingLine page)) ≡ Good header
+  pub no-page : (selection : Selection) → T (inRange selection) → matches selection header ≡ false
+
+abbrev pub ClosingEnds : Type 0
+ClosingEnds = (bytes : List ℕ) → readAnswer bytes ≡ Read → Ends (pageRead bytes)

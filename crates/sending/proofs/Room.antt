@@ -1,21 +1,24 @@
 -- The lent room after the lines: it holds them end to end, and each can be taken out of it again.
-use mathlib.Core.Path.{_≡_, _∙_, ap, sym}
-use mathlib.Core.Bool.{Bool, cond}
+use mathlib.Core.Path.{_≡_, refl, _∙_, ap, sym}
+use mathlib.Core.Bool.{Bool, true, false, cond}
 use mathlib.Core.List.{List, [], _∷_, _++_}
 use Prim.Native.Nat.{ℕ, zero, suc, _+_, _*_, _≤_, _<_}
 use native.Mathlib.Nat.{le-of-suc-le-suc, not-suc-le-zero, zero-lt-suc}
 use native.Mathlib.Omega.{arith}
-use borrow.Author.Tests.{le-leb}
+use borrow.Author.Tests.{le-leb, leb-true}
+use lib.Dec.{leb}
 use lib.ListN.{length, getD, take, drop, length-append}
 use lib.Seq.{drop-at, drop-drop, take-at}
+use Rattle.laws.proofs.Inverse.{never}
 use Rattle.grid.specs.Grid.{lastRow}
 use Rattle.packet.specs.Lines.{lineLength}
 use Rattle.page.specs.Reading.{pageRead, readAnswer}
 use Rattle.page.specs.declared.ReadAnswer.{ReadAnswer}
+use Rattle.page.specs.declared.ReadAnswer.the-variants as read
 use Rattle.page.specs.declared.ReadAnswer.the-variants.{Read}
 use Rattle.sending.specs.Sending.{bytesNeeded, endToEnd, lineCount, linesOf, roomAfter, sendAnswer, sentAfter, sentInto}
 use Rattle.sending.specs.declared.Sent.{Sent}
-use Rattle.sending.specs.declared.Sent.the-variants.{Lines, ShortRoom}
+use Rattle.sending.specs.declared.Sent.the-variants.{Lines, WrongLength, NotZero, BadDigit, UnlawfulCells, ShortRoom}
 use Rattle.sending.proofs.Lines.{lines-count, lines-length}
 use Rattle.sending.proofs.Parts.{read-whole}
 
@@ -74,3 +77,46 @@ module _ (bytes : List ℕ) (wanted : List Bool) (room : List ℕ) (taken : read
     room-holds =
         ap (take (bytesNeeded wanted)) room-after
         ∙ take-at (endToEnd (linesOf (pageRead bytes) wanted)) (drop (bytesNeeded wanted) room) (bytesNeeded wanted) sent-length
+
+-- ---- an answer that counts lines
+
+-- was given for a record that the reader takes and a room that is long enough
+pub record Counted (answer : ReadAnswer) (wanted : List Bool) (room : List ℕ) (count : ℕ) : Type 0 where
+  pub taken : answer ≡ Read
+  pub lines : count ≡ lineCount wanted
+  pub enough : bytesNeeded wanted ≤ length room
+
+-- whether an answer counts lines, and how many
+abbrev isCount : Sent → ℕ
+isCount (Lines count) = 1
+isCount WrongLength = 0
+isCount NotZero = 0
+isCount BadDigit = 0
+isCount UnlawfulCells = 0
+isCount ShortRoom = 0
+
+abbrev countIn : Sent → ℕ
+countIn (Lines count) = count
+countIn WrongLength = 0
+countIn NotZero = 0
+countIn BadDigit = 0
+countIn UnlawfulCells = 0
+countIn ShortRoom = 0
+
+counted-if : (fits : Bool) (wanted : List Bool) (room : List ℕ) (count : ℕ) → leb (bytesNeeded wanted) (length room) ≡ fits
+    → cond fits (Lines (lineCount wanted)) ShortRoom ≡ Lines count → Counted Read wanted room count
+counted-if true wanted room count e same = record { taken = refl; lines = sym (ap countIn same); enough = leb-true (bytesNeeded wanted) (length room) e }
+counted-if false wanted room count e same = absurd (never (ap isCount same))
+
+counted-by : (answer : ReadAnswer) (wanted : List Bool) (room : List ℕ) (count : ℕ) → sentAfter answer wanted room ≡ Lines count → Counted answer wanted room count
+unfolding sentAfter
+counted-by read.Read wanted room count same = counted-if (leb (bytesNeeded wanted) (length room)) wanted room count refl same
+counted-by read.WrongLength wanted room count same = absurd (never (ap isCount same))
+counted-by read.NotZero wanted room count same = absurd (never (ap isCount same))
+counted-by read.BadDigit wanted room count same = absurd (never (ap isCount same))
+counted-by read.UnlawfulCells wanted room count same = absurd (never (ap isCount same))
+
+pub counted : (bytes : List ℕ) (wanted : List Bool) (room : List ℕ) (count : ℕ) → sendAnswer bytes wanted room ≡ Lines count
+    → Counted (readAnswer bytes) wanted room count
+unfolding sendAnswer
+counted bytes wanted room count same = counted-by (readAnswer bytes) wanted room count same

@@ -1,4 +1,4 @@
--- Any two answers that meet the public function's contract are equal, and so is what they leave in the lent room, said of the generated contract.
+-- Any two answers that meet a public function's contract are equal, and so is what they leave in the lent room, said of the generated contracts.
 use mathlib.Core.Path.{_≡_, refl, _∙_, sym}
 use mathlib.Core.Bool.{cond}
 use mathlib.Core.List.{List}
@@ -12,6 +12,8 @@ use Rattle.laws.proofs.Inverse.{told-apart}
 use Rattle.sending.specs.Sending.{sentPaper}
 use Rattle.sending.specs.declared.Sent.{Sent}
 use Rattle.sending.specs.declared.Sent.the-variants.{Lines, WrongLength, NotZero, BadDigit, UnlawfulCells, ShortRoom}
+use Rattle.sending.proofs.closing_line as closing-line
+use Rattle.sending.proofs.closing_line.Reads as closing-line-reads
 use Rattle.sending.proofs.send_page as send-page
 use Rattle.sending.proofs.send_page.Reads as send-page-reads
 
@@ -36,3 +38,6 @@ sent-is = told-apart sentPaper (λ (p : Paper). toSent (p .number) (p .values)) 
 
 pub send-page-unique : Unique send-page.ended send-page-reads.Post
 send-page-unique κs a r r′ ws ws′ p q = (sent-is r r′ (p .0 ∙ sym (q .0)), λ i. (tt, (tt, ((p .1 ∙ sym (q .1)) i, tt))))
+
+pub closing-line-unique : Unique closing-line.ended closing-line-reads.Post
+closing-line-unique κs a r r′ ws ws′ p q = (p ∙ sym q, refl)

@@ -6,18 +6,22 @@ ghost use lib.ListN.{length};
 ghost use Rattle.grid.specs.Grid.{cellCount, rows};
 ghost use Rattle.packet.specs.Lines.{lineLength};
 ghost use Rattle.page.specs.declared.ReadAnswer.the-variants.{Read};
+ghost use Rattle.sending.specs.Closing.{closingLine, ofNoPage};
 ghost use Rattle.sending.specs.Private.{lineStored, partsSent, rowIn, rowLineOf, rowsStored, storedIf};
 ghost use Rattle.sending.specs.Sending.{bytesNeeded, lineCount, sendAnswer, sentAfter, sentInto, sentPaper, withC4};
-use grid::CELLS;
 use grid::COLUMNS;
 use grid::ROWS;
 use packet::C4_WEIGHT;
 use packet::Header;
 use packet::LINE_LENGTH;
+use page::Page;
 use page::ReadAnswer;
 
 // The rows that may be wanted: all but row 0, whose line is always sent.
 pub const CHOICES: usize = ROWS - 1;
+
+// The page digit F: no selection has it.
+const NO_DIGIT: u8 = 15;
 
 // Room for the longest transmission.
 pub const LONGEST: usize = ROWS * LINE_LENGTH;
@@ -88,7 +92,14 @@ fn store_line(line: [u8; LINE_LENGTH], count: usize, room: &mut [u8])
 }
 
 // The line of a row stored as the next, where it is wanted; and how many lines there are then.
-fn store_if(wanted: bool, magazine: u8, characters: &[u8], row: usize, count: usize, room: &mut [u8]) -> usize
+fn store_if(
+    wanted: bool,
+    magazine: u8,
+    characters: &[u8],
+    row: usize,
+    count: usize,
+    room: &mut [u8],
+) -> usize
     requires { ⌜ (length (now characters) ≡ cellCount) × (row < rows) × (count < rows) × (wanted ≡ true → count * lineLength + lineLength ≤ length (now room)) ⌝ }
     ensures { λ r. ⌜ r ≡ cond wanted (count + 1) count ⌝ }
     ensures { λ _. ⌜ now (room .exit) ≡ storedIf wanted (rowLineOf magazine (now (characters .entry)) row) count (now (room .entry)) ⌝ }
@@ -97,7 +108,11 @@ fn store_if(wanted: bool, magazine: u8, characters: &[u8], row: usize, count: us
         return count;
     }
     let text = row_in(characters, row);
-    store_line(packet::data_line(packet::row_packet(magazine, row as u8, text)), count, room);
+    store_line(
+        packet::data_line(packet::row_packet(magazine, row as u8, text)),
+        count,
+        room,
+    );
     count + 1
 }
 
@@ -115,7 +130,13 @@ fn store_rows(magazine: u8, characters: &[u8], wanted: [bool; CHOICES], room: &m
 }
 
 // A page that was read, sent by its parts: refused by 30 where the room is short.
-fn send_parts(magazine: u8, header: Header, characters: &[u8], wanted: [bool; CHOICES], room: &mut [u8]) -> Sent
+fn send_parts(
+    magazine: u8,
+    header: Header,
+    characters: &[u8],
+    wanted: [bool; CHOICES],
+    room: &mut [u8],
+) -> Sent
     requires { ⌜ length (now characters) ≡ cellCount ⌝ }
     ensures { λ r. ⌜ r ≡ sentAfter Read wanted (now (room .entry)) ⌝ }
     ensures { λ _. ⌜ now (room .exit) ≡ partsSent magazine header (now (characters .entry)) wanted (now (room .entry)) ⌝ }
@@ -125,7 +146,11 @@ fn send_parts(magazine: u8, header: Header, characters: &[u8], wanted: [bool; CH
         return Sent::ShortRoom;
     }
     let text = row_in(characters, 0);
-    store_line(packet::data_line(packet::header_packet(magazine, with_c4(header), text)), 0, room);
+    store_line(
+        packet::data_line(packet::header_packet(magazine, with_c4(header), text)),
+        0,
+        room,
+    );
     store_rows(magazine, characters, wanted, room);
     Sent::Lines(count)
 }
@@ -149,4 +174,31 @@ pub fn send_page(record: &[u8], wanted: [bool; CHOICES], room: &mut [u8]) -> Sen
         ReadAnswer::BadDigit => Sent::BadDigit,
         ReadAnswer::UnlawfulCells => Sent::UnlawfulCells,
     }
+}
+
+// A header of no page.
+fn of_no_page(header: Header) -> Header
+    ensures { λ r. ⌜ r ≡ ofNoPage header ⌝ }
+{
+    Header {
+        tens: NO_DIGIT,
+        units: NO_DIGIT,
+        hours_tens: header.hours_tens,
+        hours_units: header.hours_units,
+        minutes_tens: header.minutes_tens,
+        minutes_units: header.minutes_units,
+        control: header.control,
+    }
+}
+
+// The line that ends the page where nothing of its magazine follows it: a header that no receiver selects. On the air the next page's header does it.
+pub fn closing_line(page: Page) -> [u8; LINE_LENGTH]
+    ensures { λ r. ⌜ r ≡ closingLine page ⌝ }
+{
+    let header = page.header;
+    let cells = page.cells;
+    let characters = cells.characters;
+    let text = row_in(&characters, 0);
+    let closing = of_no_page(with_c4(header));
+    packet::data_line(packet::header_packet(page.magazine, closing, text))
 }

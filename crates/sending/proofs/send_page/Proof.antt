@@ -60,36 +60,40 @@ unfolding sentAfter roomAfter
 returns-2 c =
     let read = c .before .before .before .before .before .before in
     let start = read .before .before .before in
-    let e = sym (read-is _ _ (read .read-record .ensures .0)) ∙ c .enum-told2 .given .1 in
-    (answer-is (start .args .«record» .now) (start .args .wanted) (start .args .room .now) WrongLength e,
-    room-is (start .args .«record» .now) (start .args .wanted) (start .args .room .now) WrongLength e)
+    let e = sym (read-is _ _ (read .read-record .ensures .0)) ∙ c .enum-told2 .given .1 in (
+      answer-is (start .args .«record» .now) (start .args .wanted) (start .args .room .now) WrongLength e,
+      room-is (start .args .«record» .now) (start .args .wanted) (start .args .room .now) WrongLength e,
+    )
 
 returns-3 : tie.Need-returns-3
 unfolding sentAfter roomAfter
 returns-3 c =
     let read = c .before .before .before .before .before .before in
     let start = read .before .before .before in
-    let e = sym (read-is _ _ (read .read-record .ensures .0)) ∙ c .enum-told3 .given .1 in
-    (answer-is (start .args .«record» .now) (start .args .wanted) (start .args .room .now) NotZero e,
-    room-is (start .args .«record» .now) (start .args .wanted) (start .args .room .now) NotZero e)
+    let e = sym (read-is _ _ (read .read-record .ensures .0)) ∙ c .enum-told3 .given .1 in (
+      answer-is (start .args .«record» .now) (start .args .wanted) (start .args .room .now) NotZero e,
+      room-is (start .args .«record» .now) (start .args .wanted) (start .args .room .now) NotZero e,
+    )
 
 returns-4 : tie.Need-returns-4
 unfolding sentAfter roomAfter
 returns-4 c =
     let read = c .before .before .before .before .before .before in
     let start = read .before .before .before in
-    let e = sym (read-is _ _ (read .read-record .ensures .0)) ∙ c .enum-told4 .given .1 in
-    (answer-is (start .args .«record» .now) (start .args .wanted) (start .args .room .now) BadDigit e,
-    room-is (start .args .«record» .now) (start .args .wanted) (start .args .room .now) BadDigit e)
+    let e = sym (read-is _ _ (read .read-record .ensures .0)) ∙ c .enum-told4 .given .1 in (
+      answer-is (start .args .«record» .now) (start .args .wanted) (start .args .room .now) BadDigit e,
+      room-is (start .args .«record» .now) (start .args .wanted) (start .args .room .now) BadDigit e,
+    )
 
 returns-5 : tie.Need-returns-5
 unfolding sentAfter roomAfter
 returns-5 c =
     let read = c .before .before .before .before .before .before in
     let start = read .before .before .before in
-    let e = sym (read-is _ _ (read .read-record .ensures .0)) ∙ c .enum-told5 .given .1 in
-    (answer-is (start .args .«record» .now) (start .args .wanted) (start .args .room .now) UnlawfulCells e,
-    room-is (start .args .«record» .now) (start .args .wanted) (start .args .room .now) UnlawfulCells e)
+    let e = sym (read-is _ _ (read .read-record .ensures .0)) ∙ c .enum-told5 .given .1 in (
+      answer-is (start .args .«record» .now) (start .args .wanted) (start .args .room .now) UnlawfulCells e,
+      room-is (start .args .«record» .now) (start .args .wanted) (start .args .room .now) UnlawfulCells e,
+    )
 
 pub send-page-spec : {M : Type 1} → statement M
 send-page-spec =
