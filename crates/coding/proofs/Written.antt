@@ -1,13 +1,11 @@
 -- Bytes as they are sent, by one test each: a byte turned twice is itself; a message's byte is exact and holds the message, a character's is odd and holds the
 -- character.
 use mathlib.Core.Path.{_≡_}
-use mathlib.Core.Bool.{Bool, _&&_}
 use Prim.Native.Nat.{ℕ, _%_, _<_}
 use lib.Count.{ones}
-use lib.Dec.{T, eqb, ltb, eqb→eq, ltb→lt}
+use lib.Dec.{T, ltb, ltb→lt}
 use Rattle.laws.specs.Below.{allBelow}
 use Rattle.laws.proofs.Below.{at, equal-at}
-use Rattle.laws.proofs.Bools.{both-left, both-right}
 use Rattle.coding.specs.Bits.{odd, turnedByte}
 use Rattle.coding.specs.Characters.{sentCharacter}
 use Rattle.coding.specs.Hamming.{exact, messageBits, sentMessage, testsOf}

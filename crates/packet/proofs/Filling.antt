@@ -1,10 +1,10 @@
 -- An array that is filled from a place on, element by element: it is pasted over with a list, or with what a function gives of each element of one.
 use mathlib.Core.Path.{_≡_, sym, ap, _∙_}
-use mathlib.Core.List.{List, [], _++_, map, append-nil}
-use Prim.Native.Nat.{ℕ, suc, _+_, _<_, _≤_}
+use mathlib.Core.List.{List, _∷_, _++_, map, append-nil}
+use Prim.Native.Nat.{ℕ, suc, _+_, _<_}
 use native.Mathlib.Numerals.{add-one}
 use native.Mathlib.Omega.{arith}
-use lib.ListN.{length, getD, set, take, drop, length-map, drop-of-length-le}
+use lib.ListN.{length, getD, set, take, length-map, drop-of-length-le, replicate}
 use lib.Seq.{paste, paste-suc, take-all}
 use Rattle.laws.proofs.Lists.{getD-map}
 
@@ -29,3 +29,13 @@ module _ (f : ℕ → ℕ) (before : List ℕ) (place : ℕ) (from : List ℕ) w
 
   pub filled : (done : ℕ) → done ≡ length from → place + done ≡ length before → paste before place (map f from) done ≡ take place before ++ map f from
   filled done all end = copied before place (map f from) done (all ∙ sym (length-map from f)) end
+
+-- ---- behind an address
+
+-- so many zeros, and an address stored at their start
+abbrev pub started : ℕ → List ℕ → List ℕ
+started size address = set (set (replicate size 0) 0 (getD address 0 0)) 1 (getD address 1 0)
+
+-- some bytes behind an address
+abbrev pub behind : List ℕ → List ℕ → List ℕ
+behind address bytes = getD address 0 0 ∷ getD address 1 0 ∷ bytes

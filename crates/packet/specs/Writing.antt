@@ -10,6 +10,13 @@ use Rattle.packet.specs.Headers.{controlBit}
 use Rattle.packet.specs.Texts.{headerColumn}
 use Rattle.packet.specs.declared.Header.{Header}
 
+-- an address is two bytes, and a header's eight messages follow it where the columns 0 to 7 of another row stand
+abbrev pub addressLength : ℕ
+addressLength = 2
+
+abbrev pub headerLength : ℕ
+headerLength = addressLength + headerColumn
+
 -- ---- a byte, as it stands in a packet
 
 unfoldable pub messageByte : ℕ → ℕ

@@ -3,6 +3,7 @@
 ghost use mathlib.Core.Path.{_≡_};
 ghost use Rattle.packet.specs.Writing.{addressBytes, characterByte, controlMessages, dataLine, headerBytes, headerPacket, messageByte, rowPacket};
 use crate::C4_WEIGHT;
+use crate::HEADER_COLUMN;
 use crate::Header;
 use crate::LINE_LENGTH;
 use crate::PACKET_LENGTH;
@@ -14,8 +15,8 @@ pub const ADDRESS_LENGTH: usize = 2;
 
 pub const HEADER_LENGTH: usize = ADDRESS_LENGTH + MESSAGES;
 
-// Messages of a header.
-const MESSAGES: usize = 8;
+// Messages of a header: they stand where the first columns of another row do.
+const MESSAGES: usize = HEADER_COLUMN;
 
 // A byte of the clock run-in.
 const RUN_IN: u8 = 0xAA;

@@ -17,7 +17,7 @@ use Rattle.packet.specs.declared.Address.the-variants.{Whole}
 use Rattle.packet.specs.declared.Header.{Header}
 use Rattle.packet.proofs.ByRules.{header-by-rules}
 use Rattle.packet.proofs.Packets.{header-address, header-packet-length, header-read, line-framed, packet-back}
-use Rattle.page.specs.Reading.{pageRead, readAnswer}
+use Rattle.page.specs.Reading.{pageRead}
 use Rattle.page.specs.declared.Page.{Page}
 use Rattle.receiver.specs.Selections.{inRange, matches, timeMatches, whenInRange}
 use Rattle.receiver.specs.declared.Selection.{Selection}

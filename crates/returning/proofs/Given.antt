@@ -11,7 +11,6 @@ use Rattle.packet.specs.Lines.{framed, packetOf}
 use Rattle.packet.specs.Texts.{textOf}
 use Rattle.packet.specs.declared.Address.the-variants.{Whole}
 use Rattle.packet.specs.declared.Framed.the-variants.{Packet}
-use Rattle.packet.specs.declared.Header.{Header}
 use Rattle.packet.specs.declared.HeaderRead.the-variants.{Good}
 use Rattle.page.specs.declared.Page.{Page}
 use Rattle.receiver.specs.Cells.{firstColumn, rowFound}

@@ -9,7 +9,7 @@ use Rattle.laws.specs.Paper.{Paper}
 use Rattle.grid.specs.Grid.{lastRow, rows}
 use Rattle.packet.specs.Lines.{lineLength}
 use Rattle.page.specs.Reading.{readAnswer}
-use Rattle.sending.specs.Sending.{bytesNeeded, lineCount, sendAnswer, sentInto, sentPaper}
+use Rattle.sending.specs.Sending.{bytesNeeded, sendAnswer, sentInto, sentPaper}
 use Rattle.sending.specs.declared.Sent.{Sent}
 use Rattle.sending.specs.declared.Sent.the-variants.{Lines}
 use Rattle.sending.proofs.Room.{Counted, counted, room-holds}

@@ -10,6 +10,7 @@ ghost use Rattle.sending.specs.Closing.{closingLine, ofNoPage};
 ghost use Rattle.sending.specs.Private.{lineStored, partsSent, rowIn, rowLineOf, rowsStored, storedIf};
 ghost use Rattle.sending.specs.Sending.{bytesNeeded, lineCount, sendAnswer, sentAfter, sentInto, sentPaper, withC4};
 use grid::COLUMNS;
+use grid::LAST_ROW;
 use grid::ROWS;
 use packet::C4_WEIGHT;
 use packet::Header;
@@ -18,7 +19,7 @@ use page::Page;
 use page::ReadAnswer;
 
 // The rows that may be wanted: all but row 0, whose line is always sent.
-pub const CHOICES: usize = ROWS - 1;
+pub const CHOICES: usize = LAST_ROW as usize;
 
 // The page digit F: no selection has it.
 const NO_DIGIT: u8 = 15;

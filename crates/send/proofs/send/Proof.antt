@@ -5,7 +5,7 @@ use lib.Seq.{length-take-le}
 use Rattle.grid.specs.Grid.{rows}
 use Rattle.packet.specs.Lines.{lineLength}
 use Rattle.sending.specs.Sending.{sentPaper}
-use Rattle.sending.specs.declared.Sent.the-variants.{Lines, WrongLength, NotZero, BadDigit, UnlawfulCells, ShortRoom}
+use Rattle.sending.specs.declared.Sent.the-variants.{WrongLength, NotZero, BadDigit, UnlawfulCells, ShortRoom}
 use Rattle.send.specs.Written.{refusalOf}
 use Rattle.send.proofs.Parts.{lines-are, lines-fit, refusal-is}
 use borrow.Author.Needs.{needs}

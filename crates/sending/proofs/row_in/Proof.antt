@@ -7,7 +7,6 @@ use borrow.Author.Needs.{needs}
 use lib.ListN.{length, length-drop, length-set, getD, take, drop}
 use lib.Seq.{getD-drop, take-all, take-suc, take-suc-set}
 use Rattle.grid.specs.Grid.{columns}
-use Rattle.sending.specs.Private.{rowIn}
 use Rattle.sending.proofs.row_in.Statement.{statement}
 use Rattle.sending.proofs.row_in.Tie as tie
 

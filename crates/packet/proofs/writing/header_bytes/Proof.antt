@@ -1,29 +1,22 @@
-use mathlib.Core.Path.{_≡_, refl, sym, ap, _∙_}
-use mathlib.Core.List.{List, _∷_, map}
-use Prim.Native.Nat.{ℕ, _+_, _-_, _≤_}
+use mathlib.Core.Path.{_≡_, ap, _∙_}
+use mathlib.Core.List.{map}
+use Prim.Native.Nat.{_+_, _-_, _≤_}
 use native.Mathlib.Omega.{arith}
 use borrow.Author.Needs.{needs}
-use lib.ListN.{length, length-set, getD, replicate, set}
+use lib.ListN.{length, length-set, set}
 use lib.Seq.{paste, paste-zero}
-use Rattle.packet.specs.Writing.{addressBytes, addressMessages, controlMessages, headerBytes, messageByte}
-use Rattle.packet.proofs.Filling.{filled, filled-more}
+use Rattle.packet.specs.Texts.{headerColumn}
+use Rattle.packet.specs.Writing.{addressBytes, addressLength, addressMessages, headerBytes, headerLength, messageByte}
+use Rattle.packet.proofs.Filling.{behind, filled, filled-more, started}
 use Rattle.packet.proofs.writing.header_bytes.Statement.{statement}
 use Rattle.packet.proofs.writing.header_bytes.Tie as tie
 
--- the array before the loop: the address, and zeros
-abbrev started : List ℕ → List ℕ
-started address = set (set (replicate 10 0) 0 (getD address 0 0)) 1 (getD address 1 0)
-
--- some bytes behind an address
-abbrev behind : List ℕ → List ℕ → List ℕ
-behind address bytes = getD address 0 0 ∷ getD address 1 0 ∷ bytes
-
 abbrev Inv-loop : tie.InvT-loop
 Inv-loop magazine messages bytes₀ at₀ bytes at =
-    (at ≤ 8) × (length messages ≡ 8) × (length bytes ≡ 10) × (bytes ≡ paste bytes₀ 2 (map messageByte messages) at)
+    (at ≤ headerColumn) × (length messages ≡ headerColumn) × (length bytes ≡ headerLength) × (bytes ≡ paste bytes₀ addressLength (map messageByte messages) at)
 
 abbrev μ-loop : tie.MeasureT-loop
-μ-loop magazine messages bytes₀ at₀ bytes at = 8 - at
+μ-loop magazine messages bytes₀ at₀ bytes at = headerColumn - at
 
 address-bytes-requires : tie.Need-address-bytes-requires Inv-loop μ-loop
 address-bytes-requires c κs = search needs
@@ -44,7 +37,7 @@ array-write-bytes-2 : tie.Need-array-write-bytes-2 Inv-loop μ-loop
 array-write-bytes-2 c = search needs
 
 loop-holds : tie.Need-loop-holds Inv-loop μ-loop
-loop-holds c = (search needs, search needs, search needs, paste-zero _ 2 (map messageByte (c .control-messages .result)))
+loop-holds c = (search needs, search needs, search needs, paste-zero _ addressLength (map messageByte (c .control-messages .result)))
 
 array-read-message-byte : tie.Need-array-read-message-byte Inv-loop μ-loop
 array-read-message-byte c = search needs
@@ -70,8 +63,8 @@ loop-again c =
       search needs,
       search needs,
       simp length-set (b .loop .inv .2),
-      (λ i. set (b .loop .inv .3 i) (2 + b .loop .at) (c .message-byte .ensures i))
-          ∙ filled-more messageByte (started (b .before .before .address-bytes .result)) 2 (b .before .control-messages .result) (b .loop .at) (omega arith) (omega arith),
+      (λ i. set (b .loop .inv .3 i) (addressLength + b .loop .at) (c .message-byte .ensures i))
+          ∙ filled-more messageByte (started headerLength (b .before .before .address-bytes .result)) addressLength (b .before .control-messages .result) (b .loop .at) (omega arith) (omega arith),
     )
 
 returns : tie.Need-returns Inv-loop μ-loop
@@ -79,7 +72,7 @@ unfolding headerBytes addressBytes addressMessages
 returns c =
     let loop = c .before .loop in
     let messages = c .before .before .control-messages .result in
-    loop .inv .3 ∙ (filled messageByte (started (c .before .before .before .address-bytes .result)) 2 messages (loop .at) (omega arith) (omega arith)
+    loop .inv .3 ∙ (filled messageByte (started headerLength (c .before .before .before .address-bytes .result)) addressLength messages (loop .at) (omega arith) (omega arith)
     ∙ (λ i. behind (c .before .before .before .address-bytes .ensures i) (map messageByte (c .before .before .control-messages .ensures i))))
 
 pub header-bytes-spec : {M : Type 1} → statement M

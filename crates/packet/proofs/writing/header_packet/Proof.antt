@@ -9,17 +9,17 @@ use lib.Seq.{paste, paste-zero, take-all}
 use Rattle.laws.proofs.Lists.{drop-map}
 use Rattle.packet.specs.Lines.{packetLength}
 use Rattle.packet.specs.Texts.{headerColumn}
-use Rattle.packet.specs.Writing.{addressBytes, addressMessages, characterByte, headerBytes, headerPacket, rowPacket}
+use Rattle.packet.specs.Writing.{addressBytes, addressMessages, characterByte, headerBytes, headerLength, headerPacket, rowPacket}
 use Rattle.packet.proofs.Filling.{copied-more}
 use Rattle.packet.proofs.writing.header_packet.Statement.{statement}
 use Rattle.packet.proofs.writing.header_packet.Tie as tie
 
 abbrev Inv-loop : tie.InvT-loop
 Inv-loop magazine packet₀ bytes at₀ packet at =
-    (at ≤ 10) × (length bytes ≡ 10) × (length packet₀ ≡ packetLength) × (length packet ≡ packetLength) × (packet ≡ paste packet₀ 0 bytes at)
+    (at ≤ headerLength) × (length bytes ≡ headerLength) × (length packet₀ ≡ packetLength) × (length packet ≡ packetLength) × (packet ≡ paste packet₀ 0 bytes at)
 
 abbrev μ-loop : tie.MeasureT-loop
-μ-loop magazine packet₀ bytes at₀ packet at = 10 - at
+μ-loop magazine packet₀ bytes at₀ packet at = headerLength - at
 
 row-packet-requires : tie.Need-row-packet-requires Inv-loop μ-loop
 row-packet-requires c κs = search needs
@@ -55,7 +55,7 @@ loop-again c =
     )
 
 -- what is left of a row's packet behind the header's bytes
-text-left : (magazine row : ℕ) (characters : List ℕ) → drop 10 (rowPacket magazine row characters) ≡ map characterByte (drop headerColumn characters)
+text-left : (magazine row : ℕ) (characters : List ℕ) → drop headerLength (rowPacket magazine row characters) ≡ map characterByte (drop headerColumn characters)
 unfolding rowPacket addressBytes addressMessages
 text-left magazine row characters = drop-map characterByte headerColumn characters
 
@@ -67,9 +67,9 @@ returns c =
     let bytes = c .before .before .header-bytes .result in
     let packet = c .before .before .before .row-packet .result in
     loop .inv .4
-    ∙ (ap (paste packet 0 bytes) (let end : loop .at ≡ 10 = omega arith in end)
-    ∙ ((λ i. take-all 10 bytes (omega arith) i ++ drop 10 packet)
-    ∙ ((λ i. c .before .before .header-bytes .ensures i ++ drop 10 (c .before .before .before .row-packet .ensures i))
+    ∙ (ap (paste packet 0 bytes) (let end : loop .at ≡ headerLength = omega arith in end)
+    ∙ ((λ i. take-all headerLength bytes (omega arith) i ++ drop headerLength packet)
+    ∙ ((λ i. c .before .before .header-bytes .ensures i ++ drop headerLength (c .before .before .before .row-packet .ensures i))
     ∙ ap (λ (text : List ℕ). headerBytes (start .args .magazine) (start .args .header) ++ text) (text-left (start .args .magazine) 0 (start .args .characters)))))
 
 pub header-packet-spec : {M : Type 1} → statement M

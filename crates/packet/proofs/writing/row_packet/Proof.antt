@@ -1,28 +1,20 @@
-use mathlib.Core.Path.{_≡_, refl, sym, ap, _∙_}
-use mathlib.Core.List.{List, _∷_, map}
-use Prim.Native.Nat.{ℕ, _+_, _-_, _≤_}
+use mathlib.Core.Path.{_≡_, ap, _∙_}
+use mathlib.Core.List.{map}
+use Prim.Native.Nat.{_+_, _-_, _≤_}
 use native.Mathlib.Omega.{arith}
 use borrow.Author.Needs.{needs}
-use lib.ListN.{length, length-set, getD, replicate, set}
+use lib.ListN.{length, length-set, set}
 use lib.Seq.{paste, paste-zero}
 use Rattle.grid.specs.Grid.{columns}
 use Rattle.packet.specs.Lines.{packetLength}
-use Rattle.packet.specs.Writing.{addressBytes, addressMessages, characterByte, rowPacket}
-use Rattle.packet.proofs.Filling.{filled, filled-more}
+use Rattle.packet.specs.Writing.{addressBytes, addressLength, addressMessages, characterByte, rowPacket}
+use Rattle.packet.proofs.Filling.{behind, filled, filled-more, started}
 use Rattle.packet.proofs.writing.row_packet.Statement.{statement}
 use Rattle.packet.proofs.writing.row_packet.Tie as tie
 
--- the array before the loop: the address, and zeros
-abbrev started : List ℕ → List ℕ
-started address = set (set (replicate packetLength 0) 0 (getD address 0 0)) 1 (getD address 1 0)
-
--- some bytes behind an address
-abbrev behind : List ℕ → List ℕ → List ℕ
-behind address bytes = getD address 0 0 ∷ getD address 1 0 ∷ bytes
-
 abbrev Inv-loop : tie.InvT-loop
 Inv-loop magazine row characters packet₀ column₀ packet column =
-    (column ≤ columns) × (length characters ≡ columns) × (length packet ≡ packetLength) × (packet ≡ paste packet₀ 2 (map characterByte characters) column)
+    (column ≤ columns) × (length characters ≡ columns) × (length packet ≡ packetLength) × (packet ≡ paste packet₀ addressLength (map characterByte characters) column)
 
 abbrev μ-loop : tie.MeasureT-loop
 μ-loop magazine row characters packet₀ column₀ packet column = columns - column
@@ -43,7 +35,7 @@ array-write-packet-2 : tie.Need-array-write-packet-2 Inv-loop μ-loop
 array-write-packet-2 c = search needs
 
 loop-holds : tie.Need-loop-holds Inv-loop μ-loop
-loop-holds c = (search needs, search needs, search needs, paste-zero _ 2 (map characterByte (c .before .args .t3)))
+loop-holds c = (search needs, search needs, search needs, paste-zero _ addressLength (map characterByte (c .before .args .t3)))
 
 array-read-character-byte : tie.Need-array-read-character-byte Inv-loop μ-loop
 array-read-character-byte c = search needs
@@ -69,15 +61,15 @@ loop-again c =
       search needs,
       search needs,
       simp length-set (b .loop .inv .2),
-      (λ i. set (b .loop .inv .3 i) (2 + b .loop .column) (c .character-byte .ensures i))
-          ∙ filled-more characterByte (started (b .before .address-bytes .result)) 2 (b .before .before .args .t3) (b .loop .column) (omega arith) (omega arith),
+      (λ i. set (b .loop .inv .3 i) (addressLength + b .loop .column) (c .character-byte .ensures i))
+          ∙ filled-more characterByte (started packetLength (b .before .address-bytes .result)) addressLength (b .before .before .args .t3) (b .loop .column) (omega arith) (omega arith),
     )
 
 returns : tie.Need-returns Inv-loop μ-loop
 unfolding rowPacket addressBytes addressMessages
 returns c =
     let loop = c .before .loop in
-    loop .inv .3 ∙ (filled characterByte (started (c .before .before .address-bytes .result)) 2 (c .before .before .before .args .t3) (loop .column) (omega arith) (omega arith)
+    loop .inv .3 ∙ (filled characterByte (started packetLength (c .before .before .address-bytes .result)) addressLength (c .before .before .before .args .t3) (loop .column) (omega arith) (omega arith)
     ∙ (λ i. behind (c .before .before .address-bytes .ensures i) (map characterByte (c .before .before .before .args .t3))))
 
 pub row-packet-spec : {M : Type 1} → statement M
