@@ -1,6 +1,6 @@
 #!/usr/bin/env python3
-"""What the program `send` must write for a record and some rows, by a small writer of its own: written from document 01 and request 2 of document 02, with nothing taken
-from the project's code.
+"""What the program `send` must write for a record and some rows, by a small writer of its own: written from document 01 and request 2 of document 02, and for the closing line
+from README, with nothing taken from the project's code.
 
     make.py [ROWS] < RECORD > LINES     the lines of one transmission and the line that ends it; ROWS as "1-5,20", all where they are left out
     make.py page < RECORD               the page's number, to be asked of `receive`

@@ -46,7 +46,7 @@ isDigit byte = leb 0x30 byte && leb byte 0x39
 unfoldable pub count : ℕ → ℕ → ℕ
 count tens units = (tens - 0x30) * 10 + (units - 0x30)
 
--- the row of two digits; none where one is no digit, or they count more rows than there are
+-- the row of two digits; none where one is no digit, or their number is above the last row
 unfoldable pub rowOf : ℕ → ℕ → ℕ
 unfolding count
 rowOf tens units = cond (isDigit tens && isDigit units && leb (count tens units) lastRow) (count tens units) noRow

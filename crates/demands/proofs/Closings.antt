@@ -1,7 +1,7 @@
 -- Statement A: a page that closes clean is the one that was sent. And statement B, which follows: two equal records come from the same page.
 use mathlib.Core.Path.{_≡_, refl, sym, ap, subst, _∙_}
-use mathlib.Core.Bool.{false, not}
-use mathlib.Core.List.{List}
+use mathlib.Core.Bool.{true, false, not}
+use mathlib.Core.List.{List, _++_}
 use mathlib.Core.Option.{Option, none, some}
 use Prim.Native.Nat.{ℕ, _+_, _-_, _*_, _≤_, _<_}
 use native.Mathlib.Decide.{decLt}
@@ -132,6 +132,21 @@ clean-is closing.None e = absurd (omega arith)
 clean-is closing.Clean e = refl
 clean-is closing.Doubt e = absurd (omega arith)
 
+-- ---- the record
+
+-- of a lawful receiver with a page open reads back
+pub held-reads : (receiver : Receiver) → T (lawful receiver) → Sized (receiver .cells) → receiver .«open» ≡ true
+    → (readAnswer (recordOf (held receiver)) ≡ Read) × (pageRead (recordOf (held receiver)) ≡ held receiver)
+unfolding held
+held-reads receiver is full going = let answer = page-written receiver is (rw going tt) in
+    (reads-written (held receiver) full answer, page-read-back (held receiver) full answer)
+
+-- and lies at the start of what was lent
+pub record-first : (receiver : Receiver) (lent after : List ℕ) → after ≡ recordOf (held receiver) ++ drop recordLength lent
+    → take recordLength after ≡ recordOf (held receiver)
+record-first receiver lent after wrote =
+    ap (take recordLength) wrote ∙ take-at (recordOf (held receiver)) (drop recordLength lent) recordLength (length-record (held receiver))
+
 -- ---- a line that closes clean
 
 module _ (run : Run) (ready : Ready run) (j d : ℕ) (mild : d ≤ throughout) (sent : T (sentByRules (sentAt (run .lines) j)))
@@ -162,14 +177,10 @@ module _ (run : Run) (ready : Ready run) (j d : ℕ) (mild : d ≤ throughout) (
 
   record-is : recordAfter run j ≡ recordOf (held receiver)
   record-is =
-      ap (take recordLength)
-      (ap (λ (e : Entered). e .lent) entry ∙ (lent-entered outcome ∙ closed-clean .wrote))
-      ∙ take-at (recordOf (held receiver)) (drop recordLength lent) recordLength (length-record (held receiver))
+      record-first receiver lent (entryAt run j .lent) (ap (λ (e : Entered). e .lent) entry ∙ (lent-entered outcome ∙ closed-clean .wrote))
 
   reads-held : (readAnswer (recordOf (held receiver)) ≡ Read) × (pageRead (recordOf (held receiver)) ≡ held receiver)
-  unfolding held
-  reads-held = let answer = page-written receiver (stands .is) (rw (closed-clean .was-open) tt) in
-      (reads-written (held receiver) (stands .sized) answer, page-read-back (held receiver) (stands .sized) answer)
+  reads-held = held-reads receiver (stands .is) (stands .sized) (closed-clean .was-open)
 
   module _ (i : ℕ) (opening : Opening run j receiver i) where
     pub follows-here : Follows run i j

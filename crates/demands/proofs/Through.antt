@@ -92,7 +92,7 @@ module _ (run : Run) (ready : Ready run) where
   unfolding beforeLine entryAt
   left-receiver k = refl
 
-  pub left-lent : (k : ℕ) → lentAt (suc k) ≡ entryAt run k .lent
+  left-lent : (k : ℕ) → lentAt (suc k) ≡ entryAt run k .lent
   unfolding beforeLine entryAt
   left-lent k = refl
 

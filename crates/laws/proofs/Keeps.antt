@@ -1,7 +1,7 @@
 -- From the elements to a test over a whole list, or two, and what keeps such a test: repeating, mapping and cutting.
 use mathlib.Core.Path.{_≡_, refl, ap}
-use mathlib.Core.Bool.{Bool, true, false, cond, not, _&&_}
-use mathlib.Core.List.{List, [], _∷_, map}
+use mathlib.Core.Bool.{Bool, true, false, cond, not, _&&_, false≢true}
+use mathlib.Core.List.{List, [], _∷_, _++_, map}
 use Prim.Native.Nat.{ℕ, zero, suc, _^_, _<_}
 use native.Mathlib.Nat.{zero-lt-suc}
 use native.Mathlib.Omega.{arith}
@@ -15,6 +15,13 @@ use Rattle.laws.proofs.Fields.{Fit}
 pub both : (a b : Bool) → T a → T b → T (a && b)
 both true b s t = t
 both false b s t = absurd s
+
+pub all-five : (a b c d e : Bool) → T a → T b → T c → T d → T e → T (a && (b && (c && (d && e))))
+all-five a b c d e t u v w x = both a (b && (c && (d && e))) t (both b (c && (d && e)) u (both c (d && e) v (both d e w x)))
+
+pub passes : (b : Bool) → b ≡ true → T b
+passes true e = tt
+passes false e = absurd (false≢true e)
 
 pub failed : (b : Bool) → T (not b) → b ≡ false
 failed true t = absurd t
@@ -65,6 +72,13 @@ every-map before after f keeps (x ∷ xs) t =
     both (after (f x)) (every after (map f xs)) (keeps x (both-left (before x) (every before xs) t))
     (every-map before after f keeps xs (both-right (before x) (every before xs) t))
 
+-- and one list after the other
+pub every-append : {A : Type 0} (test : A → Bool) (xs ys : List A) → T (every test xs) → T (every test ys) → T (every test (xs ++ ys))
+unfolding every
+every-append test [] ys s t = t
+every-append test (x ∷ xs) ys s t =
+    both (test x) (every test (xs ++ ys)) (both-left (test x) (every test xs) s) (every-append test xs ys (both-right (test x) (every test xs) s) t)
+
 -- whatever is mapped
 pub every-mapped : {A B : Type 0} (after : B → Bool) (f : A → B) → ((a : A) → T (after (f a))) → (xs : List A) → T (every after (map f xs))
 unfolding every
@@ -75,6 +89,11 @@ pub take-map : {A B : Type 0} (f : A → B) (n : ℕ) (xs : List A) → take n (
 take-map f zero xs = refl
 take-map f (suc n) [] = refl
 take-map f (suc n) (x ∷ xs) = ap (λ ys. f x ∷ ys) (take-map f n xs)
+
+pub drop-map : {A B : Type 0} (f : A → B) (n : ℕ) (xs : List A) → drop n (map f xs) ≡ map f (drop n xs)
+drop-map f zero xs = refl
+drop-map f (suc n) [] = refl
+drop-map f (suc n) (x ∷ xs) = drop-map f n xs
 
 -- ---- two lists
 

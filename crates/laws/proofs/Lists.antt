@@ -14,12 +14,6 @@ getD-map f [] k b a h = absurd (not-suc-le-zero h)
 getD-map f (x ∷ xs) zero b a h = refl
 getD-map f (x ∷ xs) (suc k) b a h = getD-map f xs k b a (le-of-suc-le-suc h)
 
--- a mapped list cut
-pub drop-map : {A B : Type 0} (f : A → B) (n : ℕ) (xs : List A) → drop n (map f xs) ≡ map f (drop n xs)
-drop-map f zero xs = refl
-drop-map f (suc n) [] = refl
-drop-map f (suc n) (x ∷ xs) = drop-map f n xs
-
 -- no more than a list has
 pub take-min : (n : ℕ) (xs : List ℕ) → take (min n (length xs)) xs ≡ take n xs
 take-min zero xs = ap (λ (k : ℕ). take k xs) (zero-min (length xs))

@@ -1,7 +1,7 @@
 -- Reading what was written gives it back, each number cut to its bits: a message, a character, an address and a header.
 use mathlib.Core.Path.{_≡_, refl, _∙_, ap}
 use mathlib.Core.Bool.{cond, not}
-use mathlib.Core.List.{List, [], _∷_, _++_, map, map-map}
+use mathlib.Core.List.{List, [], _∷_, _++_, map}
 use mathlib.Core.Option.{some}
 use Prim.Native.Nat.{ℕ, _+_, _-_, _*_, _/_, _%_, _^_, _≤_, _<_}
 use native.Mathlib.Nat.{mod-eq-of-lt, mod-lt, zero-lt-suc}
@@ -13,6 +13,7 @@ use Rattle.laws.specs.Digits.{binary, bit}
 use Rattle.laws.specs.Fields.{digits}
 use Rattle.laws.proofs.Digits.{binary-digits}
 use Rattle.laws.proofs.Keeps.{chosen, failed}
+use Rattle.laws.proofs.Maps.{mapped-twice}
 use Rattle.laws.proofs.Tabulated.{cons-is}
 use Rattle.coding.specs.Bits.{turnedByte}
 use Rattle.coding.specs.Characters.{character, sentCharacter}
@@ -22,11 +23,12 @@ use Rattle.coding.proofs.Hamming as hamming
 use Rattle.coding.proofs.Written.{character-small, message-held, message-small, turned-back}
 use Rattle.grid.specs.Grid.{columns}
 use Rattle.packet.specs.Addresses.{addressOf, magazineOf, rowOf}
+use Rattle.packet.specs.Back.{inBits}
 use Rattle.packet.specs.Headers.{allGood, before, controlBit, controlBytes, controlOf, headerFrom, headerMessages, headerOf, headerOr}
 use Rattle.packet.specs.Headers.{lowestFirst}
 use Rattle.packet.specs.Lines.{packetByte, packetBytes, packetLength}
 use Rattle.packet.specs.Texts.{headerColumn}
-use Rattle.packet.specs.Writing.{addressBytes, characterByte, controlMessages, headerBytes, inBits, messageByte}
+use Rattle.packet.specs.Writing.{addressBytes, characterByte, controlMessages, headerBytes, messageByte}
 use Rattle.packet.specs.declared.Address.the-variants.{Whole}
 use Rattle.packet.specs.declared.Header.{Header}
 use Rattle.packet.specs.declared.HeaderRead.the-variants.{Good}
@@ -61,9 +63,6 @@ pub bits-back : (m : ℕ) → messageBits (turnedByte (messageByte m)) ≡ m % 1
 bits-back m = ap messageBits (turned-message m) ∙ message-held (m % 16) (omega arith)
 
 -- and so do all of a list
-pub mapped-twice : {A B C : Type 0} (f : A → B) (g : B → C) (h : A → C) → ((a : A) → g (f a) ≡ h a) → (xs : List A) → map g (map f xs) ≡ map h xs
-mapped-twice f g h e xs = map-map g f xs ∙ (λ i. map (λ a. e a i) xs)
-
 pub messages-turned : (messages : List ℕ) → map turnedByte (map messageByte messages) ≡ map sentAs messages
 messages-turned = mapped-twice messageByte turnedByte sentAs turned-message
 

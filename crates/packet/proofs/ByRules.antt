@@ -8,22 +8,23 @@ use borrow.Author.Tests.{eq-eqb, ne-eqb}
 use lib.Dec.{T, eqb, leb, lt→ltb}
 use lib.ListN.{length, getD, drop, length-map}
 use Rattle.laws.specs.Every.{every}
-use Rattle.laws.proofs.Bools.{both-left, both-right}
-use Rattle.laws.proofs.Keeps.{both, either, every-mapped}
+use Rattle.laws.proofs.Keeps.{all-five, both, either, every-append, every-mapped, passes}
+use Rattle.laws.proofs.Maps.{mapped-twice}
 use Rattle.coding.specs.Bits.{framingCode, turnedByte}
 use Rattle.coding.specs.Hamming.{messageBits, sentMessage}
 use Rattle.coding.proofs.Turning.{turned-small}
 use Rattle.coding.proofs.Written.{character-odd, message-exact, message-held}
 use Rattle.grid.specs.Grid.{columns, lastRow}
 use Rattle.packet.specs.Addresses.{magazineOf, rowOf}
+use Rattle.packet.specs.Back.{inBits}
 use Rattle.packet.specs.Headers.{controlBytes, headerFrom}
 use Rattle.packet.specs.Lines.{framingPlace, lineLength, packetByte, packetBytes}
 use Rattle.packet.specs.Sent.{exactByte, isByte, linePacket, oddByte, rowByRules, sentByRules}
 use Rattle.packet.specs.Sent.{sentFirst, sentHeader, sentMagazine, sentRow, sentSecond}
 use Rattle.packet.specs.Texts.{columnBytes, headerColumn, headerTextBytes}
-use Rattle.packet.specs.Writing.{addressBytes, addressMessages, characterByte, controlMessages, dataLine, headerPacket, inBits, messageByte, rowPacket}
+use Rattle.packet.specs.Writing.{addressBytes, addressMessages, characterByte, controlMessages, dataLine, headerPacket, messageByte, rowPacket}
 use Rattle.packet.specs.declared.Header.{Header}
-use Rattle.packet.proofs.Back.{addressed-length, bits-back, control-bytes, cut, firstMessage, header-from, magazine-back, mapped-twice}
+use Rattle.packet.proofs.Back.{addressed-length, bits-back, control-bytes, cut, firstMessage, header-from, magazine-back}
 use Rattle.packet.proofs.Back.{messages-turned, row-back, sentAs, sentFor}
 use Rattle.packet.proofs.Packets.{header-columns, header-packet-length, line-length, line-packet, row-columns, text-length}
 
@@ -45,19 +46,6 @@ exact-sent m = message-exact (m % 16) (omega arith)
 odd-sent : (code : ℕ) → T (oddByte (sentFor code))
 unfolding oddByte
 odd-sent code = character-odd (code % 128) (omega arith)
-
--- tests that pass
-passes : (b : Bool) → b ≡ true → T b
-passes b e = subst T (sym e) tt
-
-all-five : (a b c d e : Bool) → T a → T b → T c → T d → T e → T (a && (b && (c && (d && e))))
-all-five a b c d e t u v w x = both a (b && (c && (d && e))) t (both b (c && (d && e)) u (both c (d && e) v (both d e w x)))
-
-every-append : {A : Type 0} (test : A → Bool) (xs ys : List A) → T (every test xs) → T (every test ys) → T (every test (xs ++ ys))
-unfolding every
-every-append test [] ys s t = t
-every-append test (x ∷ xs) ys s t =
-    both (test x) (every test (xs ++ ys)) (both-left (test x) (every test xs) s) (every-append test xs ys (both-right (test x) (every test xs) s) t)
 
 -- ---- any packet that starts with an address
 

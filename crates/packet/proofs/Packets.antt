@@ -1,24 +1,31 @@
 -- Packets and lines that were written, read back: their address, header and characters, and the packet of a line.
 use mathlib.Core.Path.{_≡_, refl, _∙_, ap}
 use mathlib.Core.List.{List, _++_, map}
+use mathlib.Core.Option.{Option, some}
 use Prim.Native.Nat.{ℕ, _-_, _%_}
 use native.Mathlib.Omega.{arith}
 use borrow.Author.Tests.{eq-eqb}
 use lib.ListN.{length, take, drop, length-drop, length-map}
 use lib.Seq.{take-all}
+use Rattle.laws.proofs.Maps.{mapped-twice}
 use Rattle.coding.specs.Bits.{turnedByte}
+use Rattle.coding.specs.Characters.{character}
+use Rattle.coding.proofs.Characters as coded
 use Rattle.grid.specs.Grid.{columns}
 use Rattle.packet.specs.Addresses.{addressOf, magazineOf}
+use Rattle.packet.specs.Back.{ReadsBack, inBits}
 use Rattle.packet.specs.Headers.{headerOf}
 use Rattle.packet.specs.Lines.{framed, lineLength, packetBytes, packetLength, packetOf, packetPart}
 use Rattle.packet.specs.Sent.{linePacket}
-use Rattle.packet.specs.Texts.{columnBytes, headerColumn, headerTextBytes}
-use Rattle.packet.specs.Writing.{characterByte, controlMessages, dataLine, headerBytes, headerPacket, inBits, messageByte, rowPacket}
+use Rattle.packet.specs.Texts.{columnBytes, headerColumn, headerTextBytes, textOf}
+use Rattle.packet.specs.Writing.{characterByte, controlMessages, dataLine, headerBytes, headerPacket, messageByte, rowPacket}
 use Rattle.packet.specs.declared.Address.the-variants.{Whole}
 use Rattle.packet.specs.declared.Framed.the-variants.{Packet}
 use Rattle.packet.specs.declared.Header.{Header}
 use Rattle.packet.specs.declared.HeaderRead.the-variants.{Good}
-use Rattle.packet.proofs.Back.{address-back, addressed-length, characters-turned, headed-length, header-back, sentFor}
+use Rattle.packet.specs.declared.Text.{Text}
+use Rattle.packet.proofs.Back.{address-back, addressed-length, character-back, characters-turned, headed-length, header-back, message-back, sentFor}
+use Rattle.packet.proofs.Whole.{whole-text}
 
 -- ---- the packets
 
@@ -89,3 +96,23 @@ module _ (packet : List ℕ) (whole : length packet ≡ packetLength) where
   pub packet-back : packetOf (dataLine packet) ≡ packet
   unfolding packetOf packetPart linePacket
   packet-back = rw line-framed line-packet
+
+-- ---- all of it
+
+texts-back : (magazine row : ℕ) (codes : List ℕ) → length codes ≡ columns
+    → map character (textOf (rowPacket magazine row codes) .bytes) ≡ map {B = Option ℕ} (λ code. some (code % 128)) codes
+texts-back magazine row codes whole =
+    ap (λ (t : Text). map character (t .bytes)) (whole-text (rowPacket magazine row codes) (row-packet-length magazine row codes whole))
+    ∙ (ap (map character) (row-columns magazine row codes whole)
+    ∙ mapped-twice sentFor character (λ code. some (code % 128)) (λ code. coded.inverts (code % 128) (omega arith)) codes)
+
+pub reads-back : ReadsBack
+reads-back =
+    record {
+      messages = message-back;
+      characters = character-back;
+      addresses = address-back;
+      headers = header-back;
+      texts = texts-back;
+      lines = packet-back;
+    }

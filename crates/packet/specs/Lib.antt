@@ -1,4 +1,5 @@
 pub mod Addresses
+pub mod Back
 pub mod Headers
 pub mod Lines
 pub mod Private

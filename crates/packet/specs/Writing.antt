@@ -47,6 +47,10 @@ controlMessages header =
     ∷ (controlBit header 11 + 2 * controlBit header 12 + 4 * controlBit header 13 + 8 * controlBit header 14)
     ∷ []
 
+-- C4 among a header's control bits
+abbrev pub c4Weight : ℕ
+c4Weight = 1024
+
 -- ---- the bytes
 
 -- an address's two
@@ -78,18 +82,3 @@ runIn = 0xAA
 
 unfoldable pub dataLine : List ℕ → List ℕ
 dataLine packet = runIn ∷ runIn ∷ framingCode ∷ packet
-
--- ---- back
-
--- what of a header is sent: each part in its bits
-unfoldable pub inBits : Header → Header
-inBits header =
-    record {
-      tens = header .tens % 16;
-      units = header .units % 16;
-      «hours_tens» = header .«hours_tens» % 4;
-      «hours_units» = header .«hours_units» % 16;
-      «minutes_tens» = header .«minutes_tens» % 8;
-      «minutes_units» = header .«minutes_units» % 16;
-      control = header .control % 2048;
-    }

@@ -18,8 +18,12 @@ pub const HEADER_LENGTH: usize = ADDRESS_LENGTH + MESSAGES;
 // Messages of a header: they stand where the first columns of another row do.
 const MESSAGES: usize = HEADER_COLUMN;
 
-// A byte of the clock run-in.
+// A byte of the clock run-in, of which there are two; the framing code and the packet follow.
 const RUN_IN: u8 = 0xAA;
+
+const FRAMING_PLACE: usize = 2;
+
+const PACKET_PLACE: usize = FRAMING_PLACE + 1;
 
 // The byte of a message as it stands in a packet.
 fn message_byte(message: u8) -> u8
@@ -118,10 +122,10 @@ pub fn data_line(packet: [u8; PACKET_LENGTH]) -> [u8; LINE_LENGTH]
     ensures { λ r. ⌜ r ≡ dataLine packet ⌝ }
 {
     let mut line = [RUN_IN; LINE_LENGTH];
-    line[2] = FRAMING_CODE;
+    line[FRAMING_PLACE] = FRAMING_CODE;
     let mut at = 0;
     while at < PACKET_LENGTH {
-        line[3 + at] = packet[at];
+        line[PACKET_PLACE + at] = packet[at];
         at += 1;
     }
     line

@@ -1,5 +1,5 @@
--- The closing line is a line that ends the page, and opens none.
-use mathlib.Core.Path.{_≡_, _∙_, ap}
+-- The closing line is a line that ends the page, and matches no selection; so what is sent and closed comes back.
+use mathlib.Core.Path.{_≡_, _∙_, ap, sym}
 use mathlib.Core.Bool.{Bool, false, _&&_}
 use mathlib.Core.List.{List}
 use Prim.Native.Nat.{ℕ, _≤_}
@@ -12,7 +12,8 @@ use Rattle.grid.specs.Grid.{columns}
 use Rattle.packet.specs.Addresses.{addressOf}
 use Rattle.packet.specs.Headers.{headerOf}
 use Rattle.packet.specs.Lines.{packetLength}
-use Rattle.packet.specs.Writing.{headerPacket, inBits}
+use Rattle.packet.specs.Back.{inBits}
+use Rattle.packet.specs.Writing.{headerPacket}
 use Rattle.packet.specs.declared.Address.the-variants.{Whole}
 use Rattle.packet.specs.declared.Header.{Header}
 use Rattle.packet.proofs.ByRules.{header-by-rules}
@@ -23,8 +24,10 @@ use Rattle.receiver.specs.Selections.{inRange, matches, timeMatches, whenInRang
 use Rattle.receiver.specs.declared.Selection.{Selection}
 use Rattle.sending.specs.Closing.{closingLine, noDigit, ofNoPage}
 use Rattle.sending.specs.Sending.{rowCharacters, withC4}
-use Rattle.returning.specs.Returned.{ClosingEnds, Ends}
+use Rattle.returning.specs.Returned.{ClosingEnds, Ends, Feeds, SentAndClosed}
+use Rattle.returning.proofs.Feeding.{feeding-back}
 use Rattle.returning.proofs.Giving.{characters-whole, same-magazine}
+use Rattle.returning.proofs.Playing.{played-back}
 use Rattle.returning.proofs.Taken.{Taken, taken-page}
 
 -- no selection has the digit F
@@ -49,7 +52,7 @@ module _ (page : Page) (taken : Taken page) where
   closing = ofNoPage (withC4 (page .header))
 
   abbrev text : List ℕ
-  text = rowCharacters page 0
+  text = rowCharacters (page .cells .characters) 0
 
   whole : length text ≡ columns
   whole = characters-whole page taken 0 (omega arith)
@@ -75,3 +78,22 @@ module _ (page : Page) (taken : Taken page) where
 
 pub closing-ends : ClosingEnds
 closing-ends bytes taken = ends (pageRead bytes) (taken-page bytes taken)
+
+pub sent-and-closed : SentAndClosed
+sent-and-closed bytes wanted room selection lent taken choice range ours matched lends enough =
+    let ended = closing-ends bytes taken in
+    let feeds : Feeds bytes wanted selection (closingLine (pageRead bytes)) lent =
+    record {
+      read = taken;
+      choice = choice;
+      range = range;
+      magazine = ours;
+      matched = matched;
+      framing = ended .framing;
+      address = ended .address ∙ ap (λ (m : ℕ). Whole m 0) (sym ours);
+      lends = lends;
+    } in (
+      feeds,
+      feeding-back bytes wanted selection (closingLine (pageRead bytes)) lent feeds,
+      played-back bytes wanted room selection (closingLine (pageRead bytes)) lent feeds enough,
+    )

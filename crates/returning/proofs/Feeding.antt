@@ -37,6 +37,7 @@ use Rattle.sending.proofs.Lines.{lines-count}
 use Rattle.sending.proofs.Rows.{chosen-high, chosen-low}
 use Rattle.demands.specs.Demands.{Ready, recordAfter}
 use Rattle.demands.specs.Runs.{Run, beforeLine, closingOf, entering, entryAt, receivedAt}
+use Rattle.demands.proofs.Closings.{held-reads, record-first}
 use Rattle.demands.proofs.Through.{closing-entered, left-receiver, lent-entered, lentAt, receiverAt, standing}
 use Rattle.returning.specs.Returned.{ComesBack, FeedingBack, Feeds, Returned, fed, fedBack}
 use Rattle.returning.proofs.Given.{Gives}
@@ -71,17 +72,7 @@ module _ (receiver : Receiver) (line lent : List ℕ) (framing : framed line ≡
       zeroth-closes receiver (packetOf line) lent address (length-packet line framing) ∙ closes-clean receiver (going .0) (going .1)
 
   writes-held : take recordLength (taken receiver (packetOf line) lent .lent) ≡ recordOf (held receiver)
-  writes-held =
-      ap (take recordLength) (clean-closing receiver (packetOf line) lent closes-going .wrote)
-      ∙ take-at (recordOf (held receiver)) (drop recordLength lent) recordLength (length-record (held receiver))
-
--- and its record is read back
-module _ (receiver : Receiver) (is : T (lawful receiver)) (sized : Sized (receiver .cells)) (going : Going receiver) where
-  held-reads : (readAnswer (recordOf (held receiver)) ≡ Read) × (pageRead (recordOf (held receiver)) ≡ held receiver)
-  unfolding held
-  held-reads =
-      let answer = page-written receiver is (rw (going .0) tt) in
-      (reads-written (held receiver) sized answer, page-read-back (held receiver) sized answer)
+  writes-held = record-first receiver lent (taken receiver (packetOf line) lent .lent) (clean-closing receiver (packetOf line) lent closes-going .wrote)
 
 -- ---- the run
 
@@ -129,7 +120,7 @@ module _ (bytes : List ℕ) (wanted : List Bool) (selection : Selection) (furthe
   opens-clean : entryAt run 0 .answer ≡ accepted (lineValues 2 (columns - headerColumn) closing.None)
   opens-clean =
       ap (λ (e : Entered). e .answer) (entry-taken run ready 0 (headerLine page) at-header (gives .header-row .framing))
-      ∙ opened-answer (before 0) (headerLine page) (lentBefore 0) (withC4 (page .header)) (rowCharacters page 0)
+      ∙ opened-answer (before 0) (headerLine page) (lentBefore 0) (withC4 (page .header)) (rowCharacters (page .cells .characters) 0)
       (header-given page gives (before 0) (ours 0))
       (gives .header)
       (header-matches (before 0 .selection) (page .header) matched)
@@ -165,7 +156,7 @@ module _ (bytes : List ℕ) (wanted : List Bool) (selection : Selection) (furthe
   stores-all n h =
       let was = holding-at n (omega arith) in
       ap (λ (e : Entered). e .answer) (entry-taken run ready (suc n) (rowLine page (getD rows n 0)) (at-row n h) (row-framing n h))
-      ∙ stored-answer (before (suc n)) (rowLine page (getD rows n 0)) (lentBefore (suc n)) (getD rows n 0) (rowCharacters page (getD rows n 0))
+      ∙ stored-answer (before (suc n)) (rowLine page (getD rows n 0)) (lentBefore (suc n)) (getD rows n 0) (rowCharacters (page .cells .characters) (getD rows n 0))
       (row-given page gives (before (suc n)) (ours (suc n)) (getD rows n 0) (low n h) (high n h))
       (low n h) (high n h) (was .going)
 
@@ -206,7 +197,7 @@ module _ (bytes : List ℕ) (wanted : List Bool) (selection : Selection) (furthe
 
   comes-back : ComesBack page wanted run
   comes-back =
-      let (reads, gave) = held-reads (before end) (standing run ready end .is) (standing run ready end .sized) (holding-all .going) in
+      let (reads, gave) = held-reads (before end) (standing run ready end .is) (standing run ready end .sized) (holding-all .going .0) in
       record {
         opens = opens-clean;
         stores = stores-line;

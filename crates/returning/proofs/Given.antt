@@ -24,5 +24,5 @@ pub record GivesRow (line : List ℕ) (magazine row : ℕ) (characters : List �
 -- the lines of a page give its rows, and the first its header
 pub record Gives (page : Page) : Type 0 where
   pub header : headerOf (packetOf (headerLine page)) ≡ Good (withC4 (page .header))
-  pub header-row : GivesRow (headerLine page) (page .magazine) 0 (rowCharacters page 0)
-  pub rows : (row : ℕ) → 1 ≤ row → row ≤ lastRow → GivesRow (rowLine page row) (page .magazine) row (rowCharacters page row)
+  pub header-row : GivesRow (headerLine page) (page .magazine) 0 (rowCharacters (page .cells .characters) 0)
+  pub rows : (row : ℕ) → 1 ≤ row → row ≤ lastRow → GivesRow (rowLine page row) (page .magazine) row (rowCharacters (page .cells .characters) row)

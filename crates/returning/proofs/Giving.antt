@@ -23,7 +23,8 @@ use Rattle.packet.specs.Headers.{headerOf, headerValues}
 use Rattle.packet.specs.Lines.{packetLength, packetOf}
 use Rattle.packet.specs.Sent.{sentByRules, sentMagazine, sentRow}
 use Rattle.packet.specs.Texts.{columnBytes, textOf}
-use Rattle.packet.specs.Writing.{dataLine, headerPacket, inBits, rowPacket}
+use Rattle.packet.specs.Back.{inBits}
+use Rattle.packet.specs.Writing.{dataLine, headerPacket, rowPacket}
 use Rattle.packet.specs.declared.Address.the-variants.{Whole}
 use Rattle.packet.specs.declared.Header.{Header}
 use Rattle.packet.specs.declared.HeaderRead.the-variants.{Good}
@@ -80,11 +81,10 @@ module _ (packet : List ℕ) (whole : length packet ≡ packetLength) (magazine 
 -- ---- a page that the reader takes
 
 module _ (page : Page) (taken : Taken page) where
-  pub characters-whole : (row : ℕ) → row ≤ lastRow → length (rowCharacters page row) ≡ columns
+  pub characters-whole : (row : ℕ) → row ≤ lastRow → length (rowCharacters (page .cells .characters) row) ≡ columns
   characters-whole = row-characters page (taken .sized)
 
-  characters-fit : (row : ℕ) → T (every (fits characterWidth) (rowCharacters page row))
-  unfolding rowCharacters
+  characters-fit : (row : ℕ) → T (every (fits characterWidth) (rowCharacters (page .cells .characters) row))
   characters-fit row =
       every-take (fits characterWidth) columns (drop (row * columns) (page .cells .characters))
       (every-drop (fits characterWidth) (row * columns) (page .cells .characters) (taken .characters))
@@ -106,7 +106,7 @@ module _ (page : Page) (taken : Taken page) where
   header = withC4 (page .header)
 
   abbrev headerCodes : List ℕ
-  headerCodes = rowCharacters page 0
+  headerCodes = rowCharacters (page .cells .characters) 0
 
   header-whole : length headerCodes ≡ columns
   header-whole = characters-whole 0 (omega arith)
@@ -143,7 +143,7 @@ module _ (page : Page) (taken : Taken page) where
 
   module _ (row : ℕ) (low : 1 ≤ row) (high : row ≤ lastRow) where
     abbrev codes : List ℕ
-    codes = rowCharacters page row
+    codes = rowCharacters (page .cells .characters) row
 
     row-whole : length codes ≡ columns
     row-whole = characters-whole row high

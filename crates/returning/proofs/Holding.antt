@@ -26,22 +26,15 @@ use Rattle.receiver.specs.declared.When.the-variants.{Any, Time}
 use Rattle.receiver.proofs.Carried.{Going}
 use Rattle.receiver.proofs.Rows.{Stays}
 use Rattle.receiver.proofs.Sized.{Sized}
-use Rattle.sending.specs.Sending.{c4Weight, headerLine, rowCharacters, rowLine, withC4}
+use Rattle.sending.specs.Sending.{headerLine, rowCharacters, rowLine, withC4}
+use Rattle.returning.proofs.C4.{sets-c4}
 use Rattle.returning.proofs.Given.{Gives, GivesRow}
 use Rattle.returning.proofs.Taking.{CellHolds, cell-stays, opened-blank, opened-cell, opened-going, opened-header}
 use Rattle.returning.proofs.Taking.{stored-cell, stored-going, stored-header, stored-others}
 
 -- ---- a header with C4 set
 
--- clears the page
-c4-set : (control : ℕ) → (c4Weight + control % c4Weight) / 2 ^ (14 - 4) % 2 ≡ 1
-c4-set control = omega arith
-
-sets-c4 : (header : Header) → clears (withC4 header) ≡ true
-unfolding clears controlBit withC4
-sets-c4 header = eq-eqb ((c4Weight + header .control % c4Weight) / 2 ^ (14 - 4) % 2) 1 (c4-set (header .control))
-
--- and matches what it matched before
+-- matches what it matched before
 same-time : (when : When) (header : Header) → timeMatches when (withC4 header) ≡ timeMatches when header
 unfolding timeMatches withC4
 same-time Any header = refl
@@ -58,17 +51,17 @@ header-matches selection header matched = still-matches selection header ∙ pas
 -- ---- the lines of the page are of the selected magazine
 
 module _ (page : Page) (gives : Gives page) (receiver : Receiver) (ours : receiver .selection .magazine ≡ page .magazine) where
-  pub header-given : GivesRow (headerLine page) (receiver .selection .magazine) 0 (rowCharacters page 0)
-  header-given = subst (λ (m : ℕ). GivesRow (headerLine page) m 0 (rowCharacters page 0)) (sym ours) (gives .header-row)
+  pub header-given : GivesRow (headerLine page) (receiver .selection .magazine) 0 (rowCharacters (page .cells .characters) 0)
+  header-given = subst (λ (m : ℕ). GivesRow (headerLine page) m 0 (rowCharacters (page .cells .characters) 0)) (sym ours) (gives .header-row)
 
-  pub row-given : (row : ℕ) → 1 ≤ row → row ≤ lastRow → GivesRow (rowLine page row) (receiver .selection .magazine) row (rowCharacters page row)
-  row-given row first last = subst (λ (m : ℕ). GivesRow (rowLine page row) m row (rowCharacters page row)) (sym ours) (gives .rows row first last)
+  pub row-given : (row : ℕ) → 1 ≤ row → row ≤ lastRow → GivesRow (rowLine page row) (receiver .selection .magazine) row (rowCharacters (page .cells .characters) row)
+  row-given row first last = subst (λ (m : ℕ). GivesRow (rowLine page row) m row (rowCharacters (page .cells .characters) row)) (sym ours) (gives .rows row first last)
 
 -- ---- what is held after so many rows
 
 -- a row with the page's characters, and one with none
 abbrev pub RowGiven : Page → Cells → ℕ → Type 0
-RowGiven page cells row = (c : ℕ) → c < columns → CellHolds cells row c (getD (rowCharacters page row) c 0) fresh
+RowGiven page cells row = (c : ℕ) → c < columns → CellHolds cells row c (getD (rowCharacters (page .cells .characters) row) c 0) fresh
 
 abbrev pub RowBlank : Cells → ℕ → Type 0
 RowBlank cells row = (c : ℕ) → c < columns → CellHolds cells row c space never
@@ -76,7 +69,7 @@ RowBlank cells row = (c : ℕ) → c < columns → CellHolds cells row c space n
 pub record Holding (page : Page) (rows : List ℕ) (n : ℕ) (receiver : Receiver) : Type 0 where
   pub going : Going receiver
   pub header : receiver .header ≡ withC4 (page .header)
-  pub text : (c : ℕ) → headerColumn ≤ c → c < columns → CellHolds (receiver .cells) 0 c (getD (rowCharacters page 0) c 0) fresh
+  pub text : (c : ℕ) → headerColumn ≤ c → c < columns → CellHolds (receiver .cells) 0 c (getD (rowCharacters (page .cells .characters) 0) c 0) fresh
   pub sent : (i : ℕ) → i < n → RowGiven page (receiver .cells) (getD rows i 0)
   pub unsent : (row : ℕ) → 1 ≤ row → row ≤ lastRow → ((i : ℕ) → i < n → getD rows i 0 ≡ row → ⊥) → RowBlank (receiver .cells) row
 
@@ -87,7 +80,7 @@ module _ (page : Page) (gives : Gives page) (rows : List ℕ) (receiver : Receiv
   abbrev found : Header
   found = withC4 (page .header)
 
-  given : GivesRow (headerLine page) (receiver .selection .magazine) 0 (rowCharacters page 0)
+  given : GivesRow (headerLine page) (receiver .selection .magazine) 0 (rowCharacters (page .cells .characters) 0)
   given = header-given page gives receiver ours
 
   matches-found : matches (receiver .selection) found ≡ true
@@ -96,13 +89,13 @@ module _ (page : Page) (gives : Gives page) (rows : List ℕ) (receiver : Receiv
   pub holding-first : Holding page rows 0 (taken receiver (packetOf (headerLine page)) lent .receiver)
   holding-first =
       record {
-        going = opened-going receiver (headerLine page) lent found (rowCharacters page 0) given (gives .header) matches-found;
-        header = opened-header receiver (headerLine page) lent found (rowCharacters page 0) given (gives .header) matches-found;
-        text = opened-cell receiver (headerLine page) lent found (rowCharacters page 0) given (gives .header) matches-found sized;
+        going = opened-going receiver (headerLine page) lent found (rowCharacters (page .cells .characters) 0) given (gives .header) matches-found;
+        header = opened-header receiver (headerLine page) lent found (rowCharacters (page .cells .characters) 0) given (gives .header) matches-found;
+        text = opened-cell receiver (headerLine page) lent found (rowCharacters (page .cells .characters) 0) given (gives .header) matches-found sized;
         sent = λ i h. absurd (omega arith);
         unsent =
             λ row first last none c h.
-            opened-blank receiver (headerLine page) lent found (rowCharacters page 0) given (gives .header) matches-found
+            opened-blank receiver (headerLine page) lent found (rowCharacters (page .cells .characters) 0) given (gives .header) matches-found
             (sets-c4 (page .header)) row c first last h;
       }
 
@@ -119,17 +112,17 @@ module _ (page : Page) (gives : Gives page) (rows : List ℕ) (n : ℕ) (first :
   abbrev after : Receiver
   after = taken receiver (packetOf line) lent .receiver
 
-  this-given : GivesRow line (receiver .selection .magazine) row (rowCharacters page row)
+  this-given : GivesRow line (receiver .selection .magazine) row (rowCharacters (page .cells .characters) row)
   this-given = row-given page gives receiver ours row first last
 
   others-stay : (other : ℕ) → (other ≡ row → ⊥) → (c : ℕ) → c < columns → Stays (receiver .cells) (after .cells) other c
   others-stay other differs c h =
-      stored-others receiver line lent row (rowCharacters page row) this-given first last (was .going) other c differs h
+      stored-others receiver line lent row (rowCharacters (page .cells .characters) row) this-given first last (was .going) other c differs h
 
   sent-here : (i : ℕ) → i < suc n → Dec (getD rows i 0 ≡ row) → RowGiven page (after .cells) (getD rows i 0)
   sent-here i h (yes e) =
       subst (RowGiven page (after .cells)) (sym e)
-      (stored-cell receiver line lent row (rowCharacters page row) this-given first last (was .going) sized)
+      (stored-cell receiver line lent row (rowCharacters (page .cells .characters) row) this-given first last (was .going) sized)
   sent-here i h (no differs) =
       let later : i ≡ n → ⊥ = λ e. differs (ap (λ (k : ℕ). getD rows k 0) e) in
       λ c below.
@@ -139,8 +132,8 @@ module _ (page : Page) (gives : Gives page) (rows : List ℕ) (n : ℕ) (first :
   pub holding-next : Holding page rows (suc n) after
   holding-next =
       record {
-        going = stored-going receiver line lent row (rowCharacters page row) this-given first last (was .going);
-        header = stored-header receiver line lent row (rowCharacters page row) this-given first last (was .going) ∙ was .header;
+        going = stored-going receiver line lent row (rowCharacters (page .cells .characters) row) this-given first last (was .going);
+        header = stored-header receiver line lent row (rowCharacters (page .cells .characters) row) this-given first last (was .going) ∙ was .header;
         text =
             λ c low h.
             cell-stays (receiver .cells) (after .cells) 0 c _ fresh (others-stay 0 (λ e. omega arith) c h) (was .text c low h);

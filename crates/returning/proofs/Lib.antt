@@ -1,3 +1,4 @@
+pub mod C4
 pub mod Closing
 pub mod Feeding
 pub mod Given

@@ -12,7 +12,7 @@ use Rattle.laws.specs.Every.{every}
 use Rattle.laws.specs.Paper.{accepted}
 use Rattle.grid.specs.Grid.{columns, lastRow}
 use Rattle.packet.specs.Addresses.{addressOf}
-use Rattle.packet.specs.Headers.{headerOf}
+use Rattle.packet.specs.Headers.{controlBit, headerOf, headerValues}
 use Rattle.packet.specs.Lines.{framed, packetOf}
 use Rattle.packet.specs.Sent.{sentByRules, sentMagazine, sentRow}
 use Rattle.packet.specs.Texts.{headerColumn}
@@ -80,9 +80,22 @@ RowReturned given page row true =
 RowReturned given page row false =
     (rowPart row (page .cells .characters) ≡ replicate columns space) × (rowPart row (page .cells .marks) ≡ replicate columns never)
 
+-- page tens and units and the four parts of the time
+unfoldable pub numberAndTime : Header → List ℕ
+unfolding headerValues
+numberAndTime header = take 6 (headerValues header)
+
+-- C5 to C14
+unfoldable pub c5ToC14 : Header → List ℕ
+unfolding controlBit
+c5ToC14 header = map (controlBit header) (5 ∷ 6 ∷ 7 ∷ 8 ∷ 9 ∷ 10 ∷ 11 ∷ 12 ∷ 13 ∷ 14 ∷ [])
+
 -- the page that comes back has the number, time and C5 to C14 of the given one, C4 set, and is clean
 pub record Returned (given : Page) (wanted : List Bool) (page : Page) : Type 0 where
   pub magazine : page .magazine ≡ given .magazine
+  pub number-and-time : numberAndTime (page .header) ≡ numberAndTime (given .header)
+  pub c4 : controlBit (page .header) 4 ≡ 1
+  pub later-control : c5ToC14 (page .header) ≡ c5ToC14 (given .header)
   pub header : page .header ≡ withC4 (given .header)
   pub clean : page .clean ≡ true
   pub header-text : drop headerColumn (rowPart 0 (page .cells .characters)) ≡ drop headerColumn (rowPart 0 (given .cells .characters))
@@ -123,7 +136,7 @@ PlayedBack =
 
 -- ---- the closing line
 
--- the line that ends a page is a further one, sent by the rules; its header is no selected page's, so that none is open after it
+-- the line that ends a page is a further one, sent by the rules, and its header matches no selection
 pub record Ends (page : Page) : Type 0 where
   pub rules : T (sentByRules (closingLine page))
   pub framing : framed (closingLine page) ≡ Packet
@@ -134,3 +147,14 @@ pub record Ends (page : Page) : Type 0 where
 
 abbrev pub ClosingEnds : Type 0
 ClosingEnds = (bytes : List ℕ) → readAnswer bytes ≡ Read → Ends (pageRead bytes)
+
+-- so what is sent, and the closing line, played to a new receiver, comes back: the same of that further line
+abbrev pub SentAndClosed : Type 0
+SentAndClosed =
+    (bytes : List ℕ) (wanted : List Bool) (room : List ℕ) (selection : Selection) (lent : List ℕ)
+    → readAnswer bytes ≡ Read → ForEachRow wanted → T (inRange selection) → selection .magazine ≡ pageRead bytes .magazine
+    → T (matches selection (pageRead bytes .header)) → recordLength ≤ length lent → bytesNeeded wanted ≤ length room
+    → Feeds bytes wanted selection (closingLine (pageRead bytes)) lent
+    × ComesBack (pageRead bytes) wanted (fedBack bytes wanted selection (closingLine (pageRead bytes)) lent)
+    × (played (made selection) (recordingOf bytes wanted room (closingLine (pageRead bytes))) lent
+    ≡ stoppedAt (entryAt (fedBack bytes wanted selection (closingLine (pageRead bytes)) lent) (lineCount wanted)) (suc (lineCount wanted)))

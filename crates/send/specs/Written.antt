@@ -9,33 +9,45 @@ use lib.ListN.{replicate}
 use Rattle.grid.specs.Grid.{rows}
 use Rattle.packet.specs.Lines.{lineLength}
 use Rattle.page.specs.Reading.{pageRead}
+use Rattle.page.specs.declared.Page.{Page}
 use Rattle.sending.specs.Closing.{closingLine}
 use Rattle.sending.specs.Sending.{endToEnd, linesOf, sendAnswer, sentPaper}
 
--- the lines
-unfoldable pub linesWritten : List ℕ → List Bool → List ℕ
-unfolding endToEnd linesOf
-linesWritten input wanted = endToEnd (linesOf (pageRead input) wanted)
+-- there is room for every transmission
+abbrev pub room : List ℕ
+room = replicate (rows * lineLength) 0
 
--- and the last
-unfoldable pub closingWritten : List ℕ → List ℕ
-unfolding closingLine
-closingWritten input = closingLine (pageRead input)
+-- the number of the writer's answer: it has always one
+unfoldable pub numberOf : List ℕ → List Bool → Option ℕ
+unfolding sendAnswer sentPaper
+numberOf input wanted = sentPaper (sendAnswer input wanted room) .number
+
+-- ---- standard output
+
+unfoldable pub allLines : Page → List Bool → List ℕ
+unfolding endToEnd linesOf closingLine
+allLines page wanted = endToEnd (linesOf page wanted) ++ closingLine page
+
+unfoldable pub outputOf : Option ℕ → Page → List Bool → List ℕ
+unfolding allLines
+outputOf none page wanted = []
+outputOf (some number) page wanted = cond (eqb number 0) (allLines page wanted) []
+
+unfoldable pub output : List ℕ → List Bool → List ℕ
+unfolding outputOf numberOf
+output input wanted = outputOf (numberOf input wanted) (pageRead input) wanted
+
+-- ---- standard error
 
 -- "refused ", a number of two digits, and a line feed
 abbrev pub refusedText : ℕ → List ℕ
 refusedText number =
     (0x72 ∷ 0x65 ∷ 0x66 ∷ 0x75 ∷ 0x73 ∷ 0x65 ∷ 0x64 ∷ 0x20 ∷ []) ++ ((0x30 + number / 10) ∷ (0x30 + number % 10) ∷ 0x0A ∷ [])
 
--- by the number of the writer's answer, which has always one
-unfoldable pub refusalOf : Option ℕ → List ℕ
-refusalOf none = []
-refusalOf (some number) = cond (eqb number 0) [] (refusedText number)
-
--- there is room for every transmission
-abbrev pub room : List ℕ
-room = replicate (rows * lineLength) 0
+unfoldable pub complaintOf : Option ℕ → List ℕ
+complaintOf none = []
+complaintOf (some number) = cond (eqb number 0) [] (refusedText number)
 
 unfoldable pub complaint : List ℕ → List Bool → List ℕ
-unfolding refusalOf sendAnswer sentPaper
-complaint input wanted = refusalOf (sentPaper (sendAnswer input wanted room) .number)
+unfolding complaintOf numberOf
+complaint input wanted = complaintOf (numberOf input wanted)

@@ -1,8 +1,11 @@
 // The sending program: a page's record on standard input, the rows that are wanted as its argument, "1-5,20", or none for all. It writes the data-lines of one
 // transmission, and then the line that ends the page, so that a receiver closes it.
 ghost use mathlib.Core.Path.{_≡_};
+ghost use mathlib.Core.List.{[], _++_};
+ghost use Prim.Native.Nat.{_≤_};
 ghost use lib.ListN.{length};
-ghost use Rattle.send.specs.Written.{closingWritten, complaint, linesWritten};
+ghost use Rattle.packet.specs.Lines.{lineLength};
+ghost use Rattle.send.specs.Written.{complaint, output, room};
 use choosing::CHOICES;
 use choosing::ChoiceAnswer;
 use packet::LINE_LENGTH;
@@ -16,45 +19,41 @@ const LIMIT: usize = RECORD_LENGTH + 1;
 // Longer arguments are taken for none that names rows.
 const ARGUMENT: usize = 256;
 
-// Writes the lines. The record and the rows are there for the promise alone: that the lines are all that is to be written before the last.
-fn write_lines(lines: &[u8], record: &[u8], wanted: [bool; CHOICES]) -> bool
-    requires { ⌜ now lines ≡ linesWritten (now «record») wanted ⌝ }
+// Writes the lines, and behind them the closing one, and answers how many bytes that are. The record and the rows are there for the promise alone: that these are all
+// that is to be written for them.
+fn print(lines: &[u8], closing: &[u8], record: &[u8], wanted: [bool; CHOICES]) -> usize
+    requires { ⌜ (now lines ++ now closing ≡ output (now «record») wanted) × (length (now lines) ≤ length room) × (length (now closing) ≡ lineLength) ⌝ }
+    ensures { λ r. ⌜ r ≡ length (output (now («record» .entry)) wanted) ⌝ }
 {
-    console::say(lines)
+    let size = lines.len() + closing.len();
+    if !console::say(lines) {
+        return size;
+    }
+    console::say(closing);
+    size
 }
 
-// Writes the last line. The record is there for the promise alone.
-fn write_closing(line: &[u8], record: &[u8]) -> bool
-    requires { ⌜ now line ≡ closingWritten (now «record») ⌝ }
-{
-    console::say(line)
-}
-
-// Says a refusal. The record and the rows are there for the promise alone.
-fn refuse(text: &[u8], record: &[u8], wanted: [bool; CHOICES])
-    requires { ⌜ now text ≡ complaint (now «record») wanted ⌝ }
+// Says a refusal: nothing is written then. The record and the rows are there for the promise alone.
+fn refuse(text: &[u8], record: &[u8], wanted: [bool; CHOICES]) -> usize
+    requires { ⌜ (now text ≡ complaint (now «record») wanted) × (output (now «record») wanted ≡ []) ⌝ }
+    ensures { λ r. ⌜ r ≡ length (output (now («record» .entry)) wanted) ⌝ }
 {
     console::complain(text);
+    0
 }
 
-// Writes the lines, and then the line that ends the page.
-fn write_all(lines: &[u8], record: &[u8], wanted: [bool; CHOICES])
-    requires { ⌜ now lines ≡ linesWritten (now «record») wanted ⌝ }
+// Sends the page of a record, and answers how many bytes were to be written.
+fn send(record: &[u8], wanted: [bool; CHOICES]) -> usize
+    ensures { λ r. ⌜ r ≡ length (output (now («record» .entry)) wanted) ⌝ }
 {
-    if !write_lines(lines, record, wanted) {
-        return;
-    }
-    let read = page::read_record(record);
-    let page = read.page;
-    let line = sending::closing_line(page);
-    write_closing(&line, record);
-}
-
-// Sends the page of a record.
-fn send(record: &[u8], wanted: [bool; CHOICES]) {
     let mut room = [0u8; LONGEST];
     match sending::send_page(record, wanted, &mut room) {
-        Sent::Lines(count) => write_all(&room[..count * LINE_LENGTH], record, wanted),
+        Sent::Lines(count) => {
+            let read = page::read_record(record);
+            let page = read.page;
+            let closing = sending::closing_line(page);
+            print(&room[..count * LINE_LENGTH], &closing, record, wanted)
+        }
         Sent::WrongLength => refuse(b"refused 20\n", record, wanted),
         Sent::NotZero => refuse(b"refused 21\n", record, wanted),
         Sent::BadDigit => refuse(b"refused 22\n", record, wanted),

@@ -33,16 +33,15 @@ module _ (page : Page) (wanted : List Bool) (choice : length wanted ≡ lastRow)
 -- ---- their lengths
 
 module _ (page : Page) (sized : length (page .cells .characters) ≡ cellCount) where
-  pub row-characters : (row : ℕ) → row ≤ lastRow → length (rowCharacters page row) ≡ columns
-  unfolding rowCharacters
+  pub row-characters : (row : ℕ) → row ≤ lastRow → length (rowCharacters (page .cells .characters) row) ≡ columns
   row-characters row h = length-part (page .cells .characters) (row * columns) columns (omega arith)
 
   pub header-line-length : length (headerLine page) ≡ lineLength
-  unfolding headerLine headerLineOf rowCharacters
+  unfolding headerLine headerLineOf
   header-line-length = lengths.header-line-length (page .magazine) (page .cells .characters) sized (page .header)
 
   pub row-line-length : (row : ℕ) → row ≤ lastRow → length (rowLine page row) ≡ lineLength
-  unfolding rowLine rowLineOf rowCharacters
+  unfolding rowLine rowLineOf
   row-line-length row h = lengths.row-line-length (page .magazine) (page .cells .characters) sized row h
 
   pub lines-length : (wanted : List Bool) → length wanted ≡ lastRow → (k : ℕ) → k < length (linesOf page wanted)

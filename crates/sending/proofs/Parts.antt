@@ -60,7 +60,7 @@ module _ (page : Page) (wanted : List Bool) (room : List ℕ) (full : length (pa
 
   all-stored : rowsStored (rowLineOf (page .magazine) characters) wanted (lineStored header-line 0 room)
       ≡ endToEnd (linesOf page wanted) ++ drop (bytesNeeded wanted) room
-  unfolding rowsStored endToEnd linesOf headerLine rowLine headerLineOf rowLineOf rowCharacters
+  unfolding rowsStored endToEnd linesOf headerLine rowLine headerLineOf rowLineOf
   all-stored =
       let whole : length header-line ≡ lineLength = header-line-length (page .magazine) characters full (page .header) in
       λ i.

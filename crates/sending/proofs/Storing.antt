@@ -9,9 +9,17 @@ use mir.Val.{boolByte}
 use lib.ListN.{length, getD, take, drop, length-append, length-drop, take-append-drop}
 use lib.Seq.{drop-at, drop-drop, length-take-le, take-at}
 use Rattle.packet.specs.Lines.{lineLength}
-use Rattle.sending.specs.Private.{Storing, lineStored, rowsStored, storedIf}
+use Rattle.sending.specs.Private.{lineStored, rowsStored, storedIf}
 use Rattle.sending.specs.Sending.{bytesNeeded, chosenRows, endToEnd, lineCount}
 use Rattle.sending.proofs.Next.{chosenAfter, next-choice, next-count, none-after, none-left}
+
+-- between two rows: the lines of those before are stored, and those of the others are to come; what lies behind is as it was
+pub record Storing (line : ℕ → List ℕ) (wanted : List Bool) (before : List ℕ) (done count : ℕ) (room : List ℕ) : Type 0 where
+  pub size : length room ≡ length before
+  pub counted : count + length (chosenAfter wanted done) ≡ lineCount wanted
+  pub written : take (count * lineLength) room ++ endToEnd (map line (chosenAfter wanted done))
+      ≡ take lineLength before ++ endToEnd (map line (chosenRows wanted))
+  pub kept : drop (count * lineLength) room ≡ drop (count * lineLength) before
 
 module _ (line : ℕ → List ℕ) (wanted : List Bool) (before : List ℕ) (enough : bytesNeeded wanted ≤ length before) where
   -- at first the header's line alone is there

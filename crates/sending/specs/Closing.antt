@@ -1,10 +1,10 @@
 -- What ends the page where nothing of its magazine follows: one more row 0, of page FF, which no selection has. All else in it is as in the header that was
 -- sent.
+use mathlib.Core.List.{List}
+use Prim.Native.Nat.{ℕ}
 use Rattle.packet.specs.Writing.{dataLine, headerPacket}
 use Rattle.packet.specs.declared.Header.{Header}
 use Rattle.page.specs.declared.Page.{Page}
-use Prim.Native.Nat.{ℕ}
-use mathlib.Core.List.{List}
 use Rattle.sending.specs.Sending.{rowCharacters, withC4}
 
 -- no page has the digit F
@@ -24,5 +24,5 @@ ofNoPage header =
     }
 
 unfoldable pub closingLine : Page → List ℕ
-unfolding dataLine headerPacket ofNoPage withC4 rowCharacters
-closingLine page = dataLine (headerPacket (page .magazine) (ofNoPage (withC4 (page .header))) (rowCharacters page 0))
+unfolding dataLine headerPacket ofNoPage withC4
+closingLine page = dataLine (headerPacket (page .magazine) (ofNoPage (withC4 (page .header))) (rowCharacters (page .cells .characters) 0))

@@ -8,7 +8,7 @@ use lib.ListN.{length, take, drop}
 use Rattle.laws.specs.Paper.{Paper, accepted, refusedBy}
 use Rattle.grid.specs.Grid.{columns}
 use Rattle.packet.specs.Lines.{lineLength}
-use Rattle.packet.specs.Writing.{dataLine, headerPacket, rowPacket}
+use Rattle.packet.specs.Writing.{c4Weight, dataLine, headerPacket, rowPacket}
 use Rattle.packet.specs.declared.Header.{Header}
 use Rattle.page.specs.Reading.{pageRead, readAnswer}
 use Rattle.page.specs.declared.Page.{Page}
@@ -32,9 +32,6 @@ chosenRows wanted = chosenFrom 1 wanted
 
 -- ---- the lines
 
-abbrev pub c4Weight : ℕ
-c4Weight = 1024
-
 -- C4 is sent set whatever the record says; C5 to C14, digits and time as the record has them
 unfoldable pub withC4 : Header → Header
 withC4 header =
@@ -49,16 +46,16 @@ withC4 header =
     }
 
 -- the forty characters of a row, whatever their marks
-unfoldable pub rowCharacters : Page → ℕ → List ℕ
-rowCharacters page row = take columns (drop (row * columns) (page .cells .characters))
+abbrev pub rowCharacters : List ℕ → ℕ → List ℕ
+rowCharacters characters row = take columns (drop (row * columns) characters)
 
 unfoldable pub headerLine : Page → List ℕ
-unfolding dataLine headerPacket withC4 rowCharacters
-headerLine page = dataLine (headerPacket (page .magazine) (withC4 (page .header)) (rowCharacters page 0))
+unfolding dataLine headerPacket withC4
+headerLine page = dataLine (headerPacket (page .magazine) (withC4 (page .header)) (rowCharacters (page .cells .characters) 0))
 
 unfoldable pub rowLine : Page → ℕ → List ℕ
-unfolding dataLine rowPacket rowCharacters
-rowLine page row = dataLine (rowPacket (page .magazine) row (rowCharacters page row))
+unfolding dataLine rowPacket
+rowLine page row = dataLine (rowPacket (page .magazine) row (rowCharacters (page .cells .characters) row))
 
 -- the lines of one transmission
 unfoldable pub linesOf : Page → List Bool → List (List ℕ)

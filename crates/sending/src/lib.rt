@@ -7,8 +7,8 @@ ghost use Rattle.grid.specs.Grid.{cellCount, rows};
 ghost use Rattle.packet.specs.Lines.{lineLength};
 ghost use Rattle.page.specs.declared.ReadAnswer.the-variants.{Read};
 ghost use Rattle.sending.specs.Closing.{closingLine, ofNoPage};
-ghost use Rattle.sending.specs.Private.{lineStored, partsSent, rowIn, rowLineOf, rowsStored, storedIf};
-ghost use Rattle.sending.specs.Sending.{bytesNeeded, lineCount, sendAnswer, sentAfter, sentInto, sentPaper, withC4};
+ghost use Rattle.sending.specs.Private.{lineStored, partsSent, rowLineOf, rowsStored, storedIf};
+ghost use Rattle.sending.specs.Sending.{bytesNeeded, lineCount, rowCharacters, sendAnswer, sentAfter, sentInto, sentPaper, withC4};
 use grid::COLUMNS;
 use grid::LAST_ROW;
 use grid::ROWS;
@@ -68,7 +68,7 @@ fn with_c4(header: Header) -> Header
 // A row's forty characters.
 fn row_in(characters: &[u8], row: usize) -> [u8; COLUMNS]
     requires { ⌜ (length (now characters) ≡ cellCount) × (row < rows) ⌝ }
-    ensures { λ r. ⌜ r ≡ rowIn (now (characters .entry)) row ⌝ }
+    ensures { λ r. ⌜ r ≡ rowCharacters (now (characters .entry)) row ⌝ }
 {
     let mut found = [0u8; COLUMNS];
     let mut column = 0;

@@ -1,13 +1,18 @@
-use mathlib.Core.Path.{sym}
-use Prim.Native.Nat.{_*_, _≤_}
+-- `send::send` meets its contract: by the writer's answer, the lines and the closing line, or one line to standard error.
+use mathlib.Core.Path.{_≡_, sym}
+use Prim.Native.Nat.{ℕ, _*_, _≤_}
 use native.Mathlib.Omega.{arith}
+use mathlib.Core.List.{List}
+use lib.ListN.{length, length-replicate, length-take, take}
 use lib.Seq.{length-take-le}
 use Rattle.grid.specs.Grid.{rows}
 use Rattle.packet.specs.Lines.{lineLength}
+use Rattle.page.specs.Reading.{pageRead}
 use Rattle.sending.specs.Sending.{sentPaper}
+use Rattle.sending.specs.declared.Sent.{Sent}
 use Rattle.sending.specs.declared.Sent.the-variants.{WrongLength, NotZero, BadDigit, UnlawfulCells, ShortRoom}
-use Rattle.send.specs.Written.{refusalOf}
-use Rattle.send.proofs.Parts.{lines-are, lines-fit, refusal-is}
+use Rattle.send.specs.Written.{complaint, complaintOf, output, outputOf, room}
+use Rattle.send.proofs.Parts.{lines-fit, output-is, refusal-is}
 use borrow.Author.Needs.{needs}
 use Rattle.send.proofs.send.Statement.{statement}
 use Rattle.send.proofs.send.Tie as tie
@@ -20,6 +25,19 @@ fit c =
     lines-fit (start .args .«record» .now) (start .args .wanted) (sent .send-page .result) (sent .send-page .ensures .0)
     (c .before .count .given .0 .0) (c .before .count .given .1)
 
+-- no more than the room of every transmission
+fits-room : (n : ℕ) (bytes : List ℕ) → n ≤ rows * lineLength → length (take n bytes) ≤ length room
+fits-room n bytes h = omega (arith, length-take n bytes, h, length-replicate {A = ℕ} (rows * lineLength) 0)
+
+-- what is said, and that nothing is written, in the case of the answer that was found
+refused : (sent : tie.After-send-page) (found : Sent) → sent .send-page .result ≡ found
+    → (complaintOf (sentPaper found .number) ≡ complaint (sent .before .before .before .args .«record» .now) (sent .before .before .before .args .wanted))
+    × (output (sent .before .before .before .args .«record» .now) (sent .before .before .before .args .wanted)
+    ≡ outputOf (sentPaper found .number) (pageRead (sent .before .before .before .args .«record» .now)) (sent .before .before .before .args .wanted))
+refused sent found e =
+    let start = sent .before .before .before in
+    refusal-is (start .args .«record» .now) (start .args .wanted) (sent .send-page .result) found (sent .send-page .ensures .0) e
+
 slice-aggregate-send-page : tie.Need-slice-aggregate-send-page
 slice-aggregate-send-page c = search needs
 
@@ -29,21 +47,37 @@ send-page-requires c κs = search needs
 enum-known-count : tie.Need-enum-known-count
 enum-known-count c = search needs
 
+read-record-requires : tie.Need-read-record-requires
+read-record-requires c κs = search needs
+
+closing-line-requires : tie.Need-closing-line-requires
+closing-line-requires c κs = search needs
+
 mul-room : tie.Need-mul-room
-mul-room c = omega (arith, fit c)
+mul-room c = omega (arith, fit (c .before .before .before))
 
 array-share-prefix-room : tie.Need-array-share-prefix-room
-array-share-prefix-room c = omega (arith, fit c)
+array-share-prefix-room c = omega (arith, fit (c .before .before .before))
 
-slice-aggregate-write-all : tie.Need-slice-aggregate-write-all
-slice-aggregate-write-all c = sym (length-take-le _ _ (omega (arith, fit (c .before))))
+slice-aggregate-print : tie.Need-slice-aggregate-print
+slice-aggregate-print c = sym (length-take-le _ _ (omega (arith, fit (c .before .before .before .before))))
 
-write-all-requires : tie.Need-write-all-requires
-write-all-requires c κs =
-    let sent = c .before .before .before .before .before in
-    let start = sent .before .before .before in
-    lines-are (start .args .«record» .now) (start .args .wanted) (sent .send-page .result) (sent .send-page .ensures .0)
-    (c .before .before .count .given .0 .0) (c .before .before .count .given .1) (search needs) _ (sent .send-page .ensures .1)
+slice-aggregate-print-2 : tie.Need-slice-aggregate-print-2
+slice-aggregate-print-2 c = search needs
+
+print-requires : tie.Need-print-requires
+print-requires c κs =
+    let closed = c .before .before in
+    let known = closed .before .before .before in
+    let sent = known .before .before .before .before in
+    let start = sent .before .before .before in (
+      output-is (start .args .«record» .now) (start .args .wanted) (sent .send-page .result) (sent .send-page .ensures .0)
+          (known .before .count .given .0 .0) (known .before .count .given .1) (search needs) _ (sent .send-page .ensures .1)
+          (closed .before .before .read-record .result .page) (closed .before .before .read-record .ensures .1)
+          (closed .closing-line .result) (closed .closing-line .ensures),
+      fits-room (known .before .count .given .0 .0 * lineLength) (sent .send-page .last .1 .1 .0) (fit known),
+      search needs,
+    )
 
 enum-told : tie.Need-enum-told
 enum-told c = search needs
@@ -52,11 +86,8 @@ slice-aggregate-refuse : tie.Need-slice-aggregate-refuse
 slice-aggregate-refuse c = search needs
 
 refuse-requires : tie.Need-refuse-requires
-unfolding refusalOf sentPaper
-refuse-requires c κs =
-    let sent = c .before .before .before .before in
-    let start = sent .before .before .before in
-    refusal-is (start .args .«record» .now) (start .args .wanted) (sent .send-page .result) (sent .send-page .ensures .0) WrongLength (c .before .enum-told .given .1)
+unfolding complaintOf outputOf sentPaper
+refuse-requires c κs = refused (c .before .before .before .before) WrongLength (c .before .enum-told .given .1)
 
 enum-told-2 : tie.Need-enum-told-2
 enum-told-2 c = search needs
@@ -65,11 +96,8 @@ slice-aggregate-refuse-2 : tie.Need-slice-aggregate-refuse-2
 slice-aggregate-refuse-2 c = search needs
 
 refuse-requires-2 : tie.Need-refuse-requires-2
-unfolding refusalOf sentPaper
-refuse-requires-2 c κs =
-    let sent = c .before .before .before .before in
-    let start = sent .before .before .before in
-    refusal-is (start .args .«record» .now) (start .args .wanted) (sent .send-page .result) (sent .send-page .ensures .0) NotZero (c .before .enum-told2 .given .1)
+unfolding complaintOf outputOf sentPaper
+refuse-requires-2 c κs = refused (c .before .before .before .before) NotZero (c .before .enum-told2 .given .1)
 
 enum-told-3 : tie.Need-enum-told-3
 enum-told-3 c = search needs
@@ -78,11 +106,8 @@ slice-aggregate-refuse-3 : tie.Need-slice-aggregate-refuse-3
 slice-aggregate-refuse-3 c = search needs
 
 refuse-requires-3 : tie.Need-refuse-requires-3
-unfolding refusalOf sentPaper
-refuse-requires-3 c κs =
-    let sent = c .before .before .before .before in
-    let start = sent .before .before .before in
-    refusal-is (start .args .«record» .now) (start .args .wanted) (sent .send-page .result) (sent .send-page .ensures .0) BadDigit (c .before .enum-told3 .given .1)
+unfolding complaintOf outputOf sentPaper
+refuse-requires-3 c κs = refused (c .before .before .before .before) BadDigit (c .before .enum-told3 .given .1)
 
 enum-told-4 : tie.Need-enum-told-4
 enum-told-4 c = search needs
@@ -91,11 +116,8 @@ slice-aggregate-refuse-4 : tie.Need-slice-aggregate-refuse-4
 slice-aggregate-refuse-4 c = search needs
 
 refuse-requires-4 : tie.Need-refuse-requires-4
-unfolding refusalOf sentPaper
-refuse-requires-4 c κs =
-    let sent = c .before .before .before .before in
-    let start = sent .before .before .before in
-    refusal-is (start .args .«record» .now) (start .args .wanted) (sent .send-page .result) (sent .send-page .ensures .0) UnlawfulCells (c .before .enum-told4 .given .1)
+unfolding complaintOf outputOf sentPaper
+refuse-requires-4 c κs = refused (c .before .before .before .before) UnlawfulCells (c .before .enum-told4 .given .1)
 
 enum-told-5 : tie.Need-enum-told-5
 enum-told-5 c = search needs
@@ -104,11 +126,8 @@ slice-aggregate-refuse-5 : tie.Need-slice-aggregate-refuse-5
 slice-aggregate-refuse-5 c = search needs
 
 refuse-requires-5 : tie.Need-refuse-requires-5
-unfolding refusalOf sentPaper
-refuse-requires-5 c κs =
-    let sent = c .before .before .before .before in
-    let start = sent .before .before .before in
-    refusal-is (start .args .«record» .now) (start .args .wanted) (sent .send-page .result) (sent .send-page .ensures .0) ShortRoom (c .before .enum-told5 .given .1)
+unfolding complaintOf outputOf sentPaper
+refuse-requires-5 c κs = refused (c .before .before .before .before) ShortRoom (c .before .enum-told5 .given .1)
 
 returns : tie.Need-returns
 returns c = search needs
@@ -135,10 +154,13 @@ send-spec =
     slice-aggregate-send-page
     send-page-requires
     enum-known-count
+    read-record-requires
+    closing-line-requires
     mul-room
     array-share-prefix-room
-    slice-aggregate-write-all
-    write-all-requires
+    slice-aggregate-print
+    slice-aggregate-print-2
+    print-requires
     enum-told
     slice-aggregate-refuse
     refuse-requires

@@ -1,3 +1,4 @@
+-- `sending::closing_line` meets its contract.
 use mathlib.Core.Path.{ap, _∙_}
 use Rattle.packet.specs.Writing.{dataLine, headerPacket}
 use Rattle.sending.specs.Closing.{closingLine, ofNoPage}
@@ -25,7 +26,7 @@ data-line-requires : tie.Need-data-line-requires
 data-line-requires c κs = search needs
 
 returns : tie.Need-returns
-unfolding closingLine rowCharacters
+unfolding closingLine
 returns c =
     let row-found = c .before .before .before .before in
     let page = row-found .before .before .before .before .before .args .page in

@@ -1,3 +1,4 @@
+-- `sending::line_count` meets its contract. In its loop the count so far and the rows that are left make the whole.
 use mathlib.Core.Path.{_≡_}
 use Prim.Native.Nat.{_+_, _-_, _≤_}
 use native.Mathlib.Numerals.{add-one}

@@ -1,3 +1,4 @@
+-- `sending::of_no_page` meets its contract.
 use mathlib.Core.Path.{refl}
 use Rattle.sending.specs.Closing.{ofNoPage}
 use Rattle.sending.proofs.of_no_page.Statement.{statement}

@@ -1,3 +1,4 @@
+-- `sending::row_in` meets its contract. In its loop the first columns are the row's.
 use mathlib.Core.Path.{_≡_, refl, sym, ap, _∙_}
 use mathlib.Core.List.{_∷_, [], _++_}
 use Prim.Native.Nat.{ℕ, _+_, _*_, _-_, _≤_}

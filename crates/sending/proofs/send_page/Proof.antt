@@ -1,14 +1,30 @@
-use mathlib.Core.Path.{sym, ap, _∙_}
+-- `sending::send_page` meets its contract: by the reader's answer, the page's parts or a refusal.
+use mathlib.Core.Path.{_≡_, sym, ap, _∙_}
 use Rattle.page.specs.Reading.{pageRead}
 use Rattle.page.specs.declared.Page.{Page}
+use Rattle.page.specs.declared.ReadAnswer.{ReadAnswer}
 use Rattle.page.specs.declared.ReadAnswer.the-variants.{Read, WrongLength, NotZero, BadDigit, UnlawfulCells}
 use Rattle.page.proofs.Papers.{read-is}
 use Rattle.sending.specs.Private.{partsSent}
-use Rattle.sending.specs.Sending.{roomAfter, sentAfter, sentPaper}
+use Rattle.sending.specs.Sending.{roomAfter, sendAnswer, sentAfter, sentInto, sentPaper}
 use Rattle.sending.proofs.Parts.{answer-is, parts-sent, read-whole, room-is}
 use borrow.Author.Needs.{needs}
 use Rattle.sending.proofs.send_page.Statement.{statement}
 use Rattle.sending.proofs.send_page.Tie as tie
+
+-- the answer and the room, in the case of the reader's answer that was found
+refused : (read : tie.After-read-record) (answer : ReadAnswer) → read .read-record .result .answer ≡ answer
+    → (sentPaper (sentAfter answer (read .before .before .before .args .wanted) (read .before .before .before .args .room .now))
+    ≡ sentPaper (sendAnswer (read .before .before .before .args .«record» .now) (read .before .before .before .args .wanted) (read .before .before .before .args .room .now)))
+    × (roomAfter (sentAfter answer (read .before .before .before .args .wanted) (read .before .before .before .args .room .now))
+    (pageRead (read .before .before .before .args .«record» .now)) (read .before .before .before .args .wanted) (read .before .before .before .args .room .now)
+    ≡ sentInto (read .before .before .before .args .«record» .now) (read .before .before .before .args .wanted) (read .before .before .before .args .room .now))
+refused read answer found =
+    let start = read .before .before .before in
+    let e = sym (read-is _ _ (read .read-record .ensures .0)) ∙ found in (
+      answer-is (start .args .«record» .now) (start .args .wanted) (start .args .room .now) answer e,
+      room-is (start .args .«record» .now) (start .args .wanted) (start .args .room .now) answer e,
+    )
 
 read-record-requires : tie.Need-read-record-requires
 read-record-requires c κs = search needs
@@ -55,43 +71,19 @@ returns c =
 
 returns-2 : tie.Need-returns-2
 unfolding sentAfter roomAfter
-returns-2 c =
-    let read = c .before .before .before .before .before .before in
-    let start = read .before .before .before in
-    let e = sym (read-is _ _ (read .read-record .ensures .0)) ∙ c .enum-told2 .given .1 in (
-      answer-is (start .args .«record» .now) (start .args .wanted) (start .args .room .now) WrongLength e,
-      room-is (start .args .«record» .now) (start .args .wanted) (start .args .room .now) WrongLength e,
-    )
+returns-2 c = refused (c .before .before .before .before .before .before) WrongLength (c .enum-told2 .given .1)
 
 returns-3 : tie.Need-returns-3
 unfolding sentAfter roomAfter
-returns-3 c =
-    let read = c .before .before .before .before .before .before in
-    let start = read .before .before .before in
-    let e = sym (read-is _ _ (read .read-record .ensures .0)) ∙ c .enum-told3 .given .1 in (
-      answer-is (start .args .«record» .now) (start .args .wanted) (start .args .room .now) NotZero e,
-      room-is (start .args .«record» .now) (start .args .wanted) (start .args .room .now) NotZero e,
-    )
+returns-3 c = refused (c .before .before .before .before .before .before) NotZero (c .enum-told3 .given .1)
 
 returns-4 : tie.Need-returns-4
 unfolding sentAfter roomAfter
-returns-4 c =
-    let read = c .before .before .before .before .before .before in
-    let start = read .before .before .before in
-    let e = sym (read-is _ _ (read .read-record .ensures .0)) ∙ c .enum-told4 .given .1 in (
-      answer-is (start .args .«record» .now) (start .args .wanted) (start .args .room .now) BadDigit e,
-      room-is (start .args .«record» .now) (start .args .wanted) (start .args .room .now) BadDigit e,
-    )
+returns-4 c = refused (c .before .before .before .before .before .before) BadDigit (c .enum-told4 .given .1)
 
 returns-5 : tie.Need-returns-5
 unfolding sentAfter roomAfter
-returns-5 c =
-    let read = c .before .before .before .before .before .before in
-    let start = read .before .before .before in
-    let e = sym (read-is _ _ (read .read-record .ensures .0)) ∙ c .enum-told5 .given .1 in (
-      answer-is (start .args .«record» .now) (start .args .wanted) (start .args .room .now) UnlawfulCells e,
-      room-is (start .args .«record» .now) (start .args .wanted) (start .args .room .now) UnlawfulCells e,
-    )
+returns-5 c = refused (c .before .before .before .before .before .before) UnlawfulCells (c .enum-told5 .given .1)
 
 pub send-page-spec : {M : Type 1} → statement M
 send-page-spec =

@@ -1,3 +1,4 @@
+-- `sending::send_parts` meets its contract: 30, or the header's line and then the rows'.
 use mathlib.Core.Path.{ap, _∙_}
 use mathlib.Core.List.{List}
 use Prim.Native.Nat.{ℕ}

@@ -1,3 +1,4 @@
+-- `sending::store_if` meets its contract: the row's line, made and stored, or nothing.
 use mathlib.Core.Path.{refl, ap, _∙_}
 use mathlib.Core.List.{List}
 use Prim.Native.Nat.{ℕ}

@@ -1,3 +1,4 @@
+-- `sending::store_line` meets its contract. In its loop the room is what it was before, pasted over with the line's bytes so far.
 use mathlib.Core.Path.{_≡_, refl, _∙_}
 use Prim.Native.Nat.{_*_, _-_, _≤_}
 use native.Mathlib.Numerals.{add-one}

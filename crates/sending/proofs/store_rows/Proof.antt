@@ -1,3 +1,4 @@
+-- `sending::store_rows` meets its contract. In its loop `Storing` holds of the rows so far.
 use mathlib.Core.Path.{_≡_}
 use mathlib.Core.Bool.{Bool, true, false, cond}
 use Prim.Native.Nat.{ℕ, suc, _+_, _-_, _≤_}
@@ -5,10 +6,10 @@ use native.Mathlib.Omega.{arith}
 use borrow.Author.Needs.{needs}
 use lib.ListN.{length, getD}
 use Rattle.grid.specs.Grid.{cellCount, lastRow}
-use Rattle.sending.specs.Private.{Storing, rowLineOf}
+use Rattle.sending.specs.Private.{rowLineOf}
 use Rattle.sending.specs.Sending.{bytesNeeded}
 use Rattle.sending.proofs.Lengths.{row-line-length}
-use Rattle.sending.proofs.Storing.{next-fits, storing-first, storing-further, storing-last}
+use Rattle.sending.proofs.Storing.{Storing, next-fits, storing-first, storing-further, storing-last}
 use Rattle.sending.proofs.store_rows.Statement.{statement}
 use Rattle.sending.proofs.store_rows.Tie as tie
 

@@ -1,3 +1,4 @@
+-- `sending::with_c4` meets its contract.
 use mathlib.Core.Path.{refl}
 use Rattle.sending.specs.Sending.{withC4}
 use borrow.Author.Needs.{needs}

@@ -1,3 +1,4 @@
+-- `packet::address_bytes` meets its contract: the bytes of its two messages.
 use borrow.Author.Needs.{needs}
 use Rattle.laws.proofs.Tabulated.{cons-is}
 use mathlib.Core.Path.{refl}

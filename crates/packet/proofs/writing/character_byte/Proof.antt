@@ -1,3 +1,4 @@
+-- `packet::character_byte` meets its contract: the byte of odd parity, turned.
 use mathlib.Core.Path.{ap, _∙_}
 use borrow.Author.Needs.{needs}
 use Rattle.coding.specs.Bits.{turnedByte}

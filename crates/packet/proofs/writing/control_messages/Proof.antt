@@ -1,3 +1,4 @@
+-- `packet::control_messages` meets its contract: four control bits the other way round are what each of them is among eleven.
 use mathlib.Core.Path.{_≡_, refl, _∙_}
 use Prim.Native.Nat.{ℕ, _+_, _*_, _/_, _%_, _<_}
 use native.Mathlib.Omega.{arith}

@@ -1,3 +1,4 @@
+-- `packet::data_line` meets its contract. In its loop the run-in and the framing code are followed by the packet's bytes so far.
 use mathlib.Core.Path.{_≡_, _∙_}
 use mathlib.Core.List.{List}
 use Prim.Native.Nat.{ℕ, _+_, _-_, _≤_}

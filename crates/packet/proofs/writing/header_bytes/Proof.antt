@@ -1,3 +1,4 @@
+-- `packet::header_bytes` meets its contract. In its loop the array is what it was before, pasted over with the messages' bytes so far.
 use mathlib.Core.Path.{_≡_, ap, _∙_}
 use mathlib.Core.List.{map}
 use Prim.Native.Nat.{_+_, _-_, _≤_}

@@ -1,3 +1,4 @@
+-- `packet::header_packet` meets its contract. In its loop a row's packet is pasted over with the header's bytes so far.
 use mathlib.Core.Path.{_≡_, sym, ap, _∙_}
 use mathlib.Core.List.{List, _++_, map}
 use Prim.Native.Nat.{ℕ, _+_, _-_, _≤_}
@@ -6,7 +7,7 @@ use native.Mathlib.Omega.{arith}
 use borrow.Author.Needs.{needs}
 use lib.ListN.{length, length-set, drop, getD, set}
 use lib.Seq.{paste, paste-zero, take-all}
-use Rattle.laws.proofs.Lists.{drop-map}
+use Rattle.laws.proofs.Keeps.{drop-map}
 use Rattle.packet.specs.Lines.{packetLength}
 use Rattle.packet.specs.Texts.{headerColumn}
 use Rattle.packet.specs.Writing.{addressBytes, addressMessages, characterByte, headerBytes, headerLength, headerPacket, rowPacket}

@@ -1,3 +1,4 @@
+-- `packet::message_byte` meets its contract: the Hamming byte, turned.
 use mathlib.Core.Path.{ap, _∙_}
 use borrow.Author.Needs.{needs}
 use Rattle.coding.specs.Bits.{turnedByte}
