@@ -1,16 +1,17 @@
 //! The answer to a case, worked out from the case's own bytes.
 
-use crate::bits::{character, character_byte, framing_passes, message, test_a, test_b, test_c, test_d, turned, SENT};
+use crate::bits::*;
 use crate::display::{display, Cell, Height, Symbol};
 use crate::field::{list, search, unit_from, Found};
 use crate::packet::{address, data_line_refusal, forty, header, packet_of_line, zero_header, Address};
-use crate::receiver::{new_receiver, play, receive_line, receive_line_lent, receive_packet, Answer, Receiver};
+use crate::receiver::{new_receiver, receive_line, receive_line_lent, receive_packet, Answer, Receiver, CLOSED_NONE};
 use crate::record::{read_page, write_page};
+use crate::recording::play;
 use crate::send::{header_line, row_line};
 use crate::text::*;
 use crate::transmission::{send_page, CHOOSABLE};
 
-/// In the place of a message, a character or a header that is not read.
+/// In the place of a message, a position, a character or a header that is not read.
 const REFUSED: u8 = 0xFF;
 
 /// The kind where a recording came to its end.
@@ -38,6 +39,15 @@ pub fn answer(case: &Case) -> Vec<u8> {
     }
 }
 
+/// The position of a Hamming byte's wrong bit, 1 to 8; 0 where it is exact.
+fn position(x: u8) -> u8 {
+    match decode(x) {
+        Decoded::Exact { .. } => 0,
+        Decoded::Corrected { position, .. } => position,
+        Decoded::Refused => REFUSED,
+    }
+}
+
 /// Sort b.
 fn byte_answer(x: u8) -> Vec<u8> {
     vec![
@@ -48,6 +58,7 @@ fn byte_answer(x: u8) -> Vec<u8> {
         test_c(x) as u8,
         test_d(x) as u8,
         message(x).unwrap_or(REFUSED),
+        position(x),
         character(x).unwrap_or(REFUSED),
     ]
 }
@@ -148,14 +159,15 @@ fn selection_answer(x: &[u8]) -> Vec<u8> {
     out
 }
 
-/// One step of a run: for a recording how many lines it used, and then ANSWER.
+/// One step of a run: for a recording how many lines it used and MENDED, and then ANSWER.
 fn step_answer(entry: u8, receiver: &mut Receiver, record: &mut [u8], bytes: &[u8]) -> Vec<u8> {
     match entry {
         b'm' => answer_bytes(&receive_line_lent(receiver, record, bytes)).to_vec(),
         b'r' => {
             let played = play(receiver, record, bytes);
-            let end = Answer { number: 0, kind: AT_END, count: 0, closing: 0 };
+            let end = Answer { number: 0, kind: AT_END, count: 0, closing: CLOSED_NONE, mended: 0 };
             let mut out = two_bytes(played.lines).to_vec();
+            out.extend(mended_bytes(&played.mended));
             out.extend(answer_bytes(&played.stop.unwrap_or(end)));
             out
         }

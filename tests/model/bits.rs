@@ -41,24 +41,30 @@ fn odd(byte: u8, places: &[u32]) -> bool {
     ones(byte, places) % 2 == 1
 }
 
-/// Test A over b1 b2 b6 b8.
+/// "A over b1 b2 b6 b8; B over b2 b3 b4 b8; C over b2 b4 b5 b6; D over all."
+const A: [u32; 4] = [1, 2, 6, 8];
+const B: [u32; 4] = [2, 3, 4, 8];
+const C: [u32; 4] = [2, 4, 5, 6];
+const D: [u32; 8] = [1, 2, 3, 4, 5, 6, 7, 8];
+
+/// Does test A hold?
 pub fn test_a(byte: u8) -> bool {
-    odd(byte, &[1, 2, 6, 8])
+    odd(byte, &A)
 }
 
-/// Test B over b2 b3 b4 b8.
+/// Does test B hold?
 pub fn test_b(byte: u8) -> bool {
-    odd(byte, &[2, 3, 4, 8])
+    odd(byte, &B)
 }
 
-/// Test C over b2 b4 b5 b6.
+/// Does test C hold?
 pub fn test_c(byte: u8) -> bool {
-    odd(byte, &[2, 4, 5, 6])
+    odd(byte, &C)
 }
 
-/// Test D over all.
+/// Does test D hold?
 pub fn test_d(byte: u8) -> bool {
-    odd(byte, &[1, 2, 3, 4, 5, 6, 7, 8])
+    odd(byte, &D)
 }
 
 /// Do all four tests hold?
@@ -71,25 +77,45 @@ fn message_bits(byte: u8) -> u8 {
     b(byte, 2) + 2 * b(byte, 4) + 4 * b(byte, 6) + 8 * b(byte, 8)
 }
 
-/// "D fails: one wrong bit, corrected": the one change of a bit with which all tests hold.
-fn corrected(byte: u8) -> u8 {
-    for n in 0..8 {
-        let changed = byte ^ (1 << n);
-        if exact(changed) {
-            return changed;
-        }
-    }
-    unreachable!("some single change makes every test hold")
+/// What decoding a Hamming byte answers: "exact, corrected (with the position of the wrong bit, 1 to 8)
+/// or refused".
+#[derive(Clone, Copy, PartialEq, Debug)]
+pub enum Decoded {
+    Exact { message: u8 },
+    Corrected { message: u8, position: u8 },
+    Refused,
 }
 
-/// The message of a Hamming byte; "D holds and another fails: refused".
-pub fn message(byte: u8) -> Option<u8> {
+/// The position of the one wrong bit, where D fails. A wrong bit turns over every test that it stands
+/// in, so it is the bit that stands in those of A, B and C that fail and in no other: b7 where none does.
+fn wrong_bit(byte: u8) -> u8 {
+    let tells = |n: &u32| {
+        let (a, b, c) = (A.contains(n), B.contains(n), C.contains(n));
+        (a, b, c) == (!test_a(byte), !test_b(byte), !test_c(byte))
+    };
+    let position = D.into_iter().find(tells);
+    position.expect("each set of A, B and C has a bit of its own") as u8
+}
+
+/// Decode a Hamming byte.
+pub fn decode(byte: u8) -> Decoded {
     if exact(byte) {
-        Some(message_bits(byte))
-    } else if !test_d(byte) {
-        Some(message_bits(corrected(byte)))
+        Decoded::Exact { message: message_bits(byte) }
+    } else if test_d(byte) {
+        // "D holds and another fails: refused."
+        Decoded::Refused
     } else {
-        None
+        // "D fails: one wrong bit, corrected."
+        let position = wrong_bit(byte);
+        Decoded::Corrected { message: message_bits(byte ^ (1 << (position - 1))), position }
+    }
+}
+
+/// The message of a Hamming byte, where it is not refused.
+pub fn message(byte: u8) -> Option<u8> {
+    match decode(byte) {
+        Decoded::Exact { message } | Decoded::Corrected { message, .. } => Some(message),
+        Decoded::Refused => None,
     }
 }
 

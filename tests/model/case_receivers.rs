@@ -23,7 +23,7 @@ fn run(lines: u64, level: u64, random: &mut Random) -> Receiver {
 }
 
 /// A receiver reached by the model: open or not, in doubt or not, with cells left.
-fn reached(open: bool, doubt: bool, random: &mut Random) -> Receiver {
+pub fn reached(open: bool, doubt: bool, random: &mut Random) -> Receiver {
     for _ in 0..40 {
         let lines = random.between(10, 60);
         let level = if doubt { random.pick(&[2, 3, 4, 7]) } else { random.pick(&[0, 1]) };
@@ -55,7 +55,7 @@ pub fn lawful_cells(characters: &mut [u8], marks: &mut [u8], random: &mut Random
 }
 
 /// A lawful receiver that no run makes.
-fn lawful(open: bool, random: &mut Random) -> Receiver {
+pub fn lawful(open: bool, random: &mut Random) -> Receiver {
     let selection = any_selection(random);
     let (_, mut receiver) = new_receiver(&selection);
     lawful_cells(&mut receiver.characters, &mut receiver.marks, random);
@@ -158,7 +158,7 @@ pub fn spoil_cell(characters: &mut [u8], marks: &mut [u8], random: &mut Random) 
 }
 
 /// A receiver with exactly one part spoiled, or at a lawful edge.
-fn spoiled(random: &mut Random) -> Receiver {
+pub fn spoiled(random: &mut Random) -> Receiver {
     let open = random.once_in(2);
     let mut receiver = if random.once_in(3) { reached(open, false, random) } else { lawful(open, random) };
     match random.below(10) {
@@ -285,12 +285,25 @@ fn header_spoiled(receiver: &Receiver, random: &mut Random) -> Vec<u8> {
     line
 }
 
+/// A line by the rules whose Hamming bytes are then exact, corrected and refused in any mix; one in five
+/// is another magazine's header.
+pub fn mixed_line(receiver: &Receiver, random: &mut Random) -> Vec<u8> {
+    let (mut row, mut line) = sent_line(receiver, random);
+    if random.once_in(5) {
+        let other = other_magazine(our_magazine(&receiver.selection, random), random);
+        (row, line) = (0, header_line(other, &matching_header(&receiver.selection, random), &text(random)));
+    }
+    mixed_damage(&mut line, row, random);
+    line
+}
+
 /// A line of 45 bytes for a receiver.
 fn line_of_45(receiver: &Receiver, random: &mut Random) -> Vec<u8> {
     match random.below(20) {
         0..=4 => address_form(receiver, random),
         5..=6 => header_spoiled(receiver, random),
         7 if random.once_in(2) => random.bytes(45),
+        8..=10 => mixed_line(receiver, random),
         _ => {
             let (row, line) = sent_line(receiver, random);
             let level = random.pick(&[0, 0, 0, 0, 1, 2, 2, 3, 3, 4, 4, 7]);
@@ -307,7 +320,12 @@ fn line_of_45(receiver: &Receiver, random: &mut Random) -> Vec<u8> {
 
 /// A line of any length, framing now and then spoiled.
 fn some_line(receiver: &Receiver, random: &mut Random) -> Vec<u8> {
-    let mut line = line_of_45(receiver, random);
+    let line = line_of_45(receiver, random);
+    spoiled_or_not(line, random)
+}
+
+/// A line refused by 10 or by 11, or left as it is.
+pub fn spoiled_or_not(mut line: Vec<u8>, random: &mut Random) -> Vec<u8> {
     match random.below(24) {
         0 => framing_damage(&mut line, 2, 2, random),
         1 => framing_damage(&mut line, 2, 8, random),

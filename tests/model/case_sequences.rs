@@ -1,7 +1,8 @@
 //! Runs of many steps: lines one by one, and recordings.
 
 use crate::random::Random;
-use crate::receiver::{new_receiver, play, Selection};
+use crate::receiver::{new_receiver, Selection};
+use crate::recording::play;
 use crate::send::{any_selection, damaged, Broadcaster, LEVELS};
 use crate::text::{receiver_bytes, step, Case, LONGEST};
 

@@ -1,12 +1,14 @@
 //! The makers of cases, and how many cases each makes. A maker's letter is the sort that it makes, or, of the runs
-//! (sort r), the entry of their steps. Two letters are neither: e makes runs of lines one by one, and so h (for
-//! Hamming) makes sort e.
+//! (sort r), the entry of their steps. Three letters are neither: e makes runs of lines one by one, and so h (for
+//! Hamming) makes sort e; c makes runs by all entries whose Hamming bytes are corrected.
 
 use crate::random::Random;
 use crate::text::Case;
-use crate::{case_fields, case_lines, case_pages, case_receivers, case_records, case_sending, case_sequences};
+use crate::{
+    case_fields, case_lines, case_mended, case_pages, case_receivers, case_records, case_sending, case_sequences,
+};
 
-pub const MAKERS: &str = "bnaslmperwdfughkt";
+pub const MAKERS: &str = "bnaslmpercwdfughkt";
 
 /// The share of each maker, in parts of the whole.
 fn weight(maker: char) -> u64 {
@@ -19,6 +21,7 @@ fn weight(maker: char) -> u64 {
         'p' => 80,
         'e' => 20,
         'r' => 8,
+        'c' => 8,
         'w' => 80,
         'd' => 90,
         'f' => 130,
@@ -33,10 +36,11 @@ fn weight(maker: char) -> u64 {
 /// A page (sort g) counts as so many cases: its answer has 7,681 bytes, and it shows 24 rows at once. At COUNT 50000 some 330 are made, of 8,000 rows.
 const CASES_FOR_A_PAGE: u64 = 16;
 
-/// How many cases a maker makes whatever COUNT is: every byte, and the pages sent that are counted out.
+/// How many cases a maker makes whatever COUNT is: every byte, and the runs and the pages sent that are counted out.
 fn always(maker: char) -> u64 {
     match maker {
         'b' | 'h' => 256,
+        'c' => case_mended::counted_out(),
         't' => case_sending::counted_out(),
         _ => 0,
     }
@@ -62,6 +66,7 @@ pub fn case(maker: char, i: u64, random: &mut Random) -> Case {
         'l' | 'm' | 'p' => case_receivers::one_step(maker, i, random),
         'e' => case_sequences::lines(i, random),
         'r' => case_sequences::recording(i, random),
+        'c' => case_mended::run(i, random),
         'w' => case_records::page_to_write(i, random),
         'd' => case_records::record_to_read(i, random),
         'f' | 'u' => case_fields::field_and_place(maker, i, random),

@@ -24,7 +24,8 @@ HEADER = [("page tens, units", 2), ("hours, minutes", 4), ("control bits", 2)]
 CHARACTERS = [("characters", CELLS), ("marks", CELLS)]
 RECEIVER = SELECTION + [("page open", 1), ("doubt", 1)] + HEADER + CHARACTERS
 PAGE = [("magazine", 1), ("zeros", 7), ("clean", 1), ("zero", 1)] + HEADER + CHARACTERS
-ANSWER = [("number", 1), ("kind", 1), ("count", 1), ("closing", 1)]
+ANSWER = [("number", 1), ("kind", 1), ("count", 1), ("closing", 1), ("mended", 1)]
+MENDED = [("bytes mended", 2), ("lines with one or more", 2), ("bytes mended in the page's own lines", 2)]
 NUMBER = [("number", 1)]
 WANTED = [("rows wanted", ROWS - 1)]
 
@@ -85,10 +86,10 @@ def answer_parts(case):
     if case.sort == "r":
         parts = []
         for n, (entry, _) in enumerate(steps_of(case)):
-            parts += named(f"step {n}: ", ([("lines used", 2)] if entry == "r" else []) + ANSWER + record)
+            parts += named(f"step {n}: ", ([("lines used", 2)] + MENDED if entry == "r" else []) + ANSWER + record)
         return parts + RECEIVER
     return {
-        "b": [(name, 1) for name in ("turned", "framing", "test A", "test B", "test C", "test D", "message", "character")],
+        "b": [(name, 1) for name in ("turned", "framing", "test A", "test B", "test C", "test D", "message", "position", "character")],
         "n": NUMBER,
         "a": NUMBER + [("messages read", 1), ("address", 2), ("header's number", 1)] + HEADER + [("text", COLUMNS)],
         "f": NUMBER + [("parity", 1), ("offset", 1), ("place", 4), ("after", 4)],

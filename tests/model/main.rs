@@ -1,4 +1,4 @@
-//! An independent model of document 01 and of requests 1 and 2 of document 02: prints seeded cases,
+//! An independent model of document 01 and of requests 1, 2 and 3 of document 02: prints seeded cases,
 //! each with the answer expected.
 //!
 //! `model SEED COUNT [MAKERS]` prints about COUNT cases, of which a page to be displayed counts as
@@ -6,12 +6,14 @@
 //! that are always made: a case line, then "= " and its answer, as FORMAT.md has them. `model marked`
 //! checks the marked cases. `model demand SEED COUNT` checks the two laws on clean closings over
 //! random runs, `model double SEED COUNT` those on double height over random pages, `model sending
-//! SEED COUNT` those on pages sent and received again.
+//! SEED COUNT` those on pages sent and received again, `model mended SEED COUNT` those on mended bytes
+//! over all bytes and over random runs.
 
 mod answers;
 mod bits;
 mod case_fields;
 mod case_lines;
+mod case_mended;
 mod case_pages;
 mod case_receivers;
 mod case_records;
@@ -21,13 +23,16 @@ mod cases;
 mod demand;
 mod display;
 mod double;
+mod examined;
 mod field;
 mod laws;
 mod marked;
+mod mended;
 mod packet;
 mod random;
 mod receiver;
 mod record;
+mod recording;
 mod send;
 mod sending;
 mod text;
@@ -61,8 +66,9 @@ fn main() {
         ["demand", seed, count] => demand::print(number(seed), number(count)),
         ["double", seed, count] => double::print(number(seed), number(count)),
         ["sending", seed, count] => sending::print(number(seed), number(count)),
+        ["mended", seed, count] => mended::print(number(seed), number(count)),
         [seed, count] => print_cases(number(seed), number(count), cases::MAKERS),
         [seed, count, makers] => print_cases(number(seed), number(count), makers),
-        _ => println!("model SEED COUNT [MAKERS] | model marked | model demand|double|sending SEED COUNT"),
+        _ => println!("model SEED COUNT [MAKERS] | model marked | model demand|double|sending|mended SEED COUNT"),
     }
 }

@@ -1,6 +1,6 @@
 //! The thirteen marked cases of document 01, and the counts of Hamming bytes.
 
-use crate::bits::{character, exact, framing_passes, message, test_d, SENT};
+use crate::bits::{character, decode, framing_passes, Decoded, SENT};
 use crate::display::{display, pattern, Cell, Symbol};
 use crate::packet::{address, zero_header, Address};
 use crate::receiver::{new_receiver, Selection};
@@ -27,9 +27,14 @@ fn on_every_row(codes: &[u8], holds: fn(&[Cell]) -> bool) -> bool {
     (0..ROWS).all(|row| holds(&cells(codes, row)))
 }
 
-/// A corrected byte: its message is this and it is not exact.
-fn corrects_to(byte: u8, wanted: u8) -> bool {
-    message(byte) == Some(wanted) && !exact(byte)
+/// An exact byte of this message.
+fn is_exact(byte: u8, message: u8) -> bool {
+    decode(byte) == Decoded::Exact { message }
+}
+
+/// A corrected byte of this message, with this bit wrong.
+fn corrects_to(byte: u8, message: u8, position: u8) -> bool {
+    decode(byte) == Decoded::Corrected { message, position }
 }
 
 /// Is this cell this mosaic, contiguous, in this colour?
@@ -91,10 +96,10 @@ fn case_13() -> bool {
 /// Each marked case, in the paper's order.
 fn marked_cases() -> Vec<bool> {
     vec![
-        message(0x15) == Some(0) && message(0xEA) == Some(15) && exact(0x15) && exact(0xEA),
-        corrects_to(0x14, 0) && corrects_to(0x55, 0),
-        message(0x16).is_none(),
-        corrects_to(0x00, 1) && corrects_to(0xFF, 14),
+        is_exact(0x15, 0) && is_exact(0xEA, 15),
+        corrects_to(0x14, 0, 1) && corrects_to(0x55, 0, 7),
+        decode(0x16) == Decoded::Refused,
+        corrects_to(0x00, 1, 2) && corrects_to(0xFF, 14, 2),
         address_of(0x02, 0x15) == Address::Whole { magazine: 1, row: 0 },
         address_of(0xD0, 0x9B) == Address::Whole { magazine: 8, row: 23 },
         character(0xC1) == Some(0x41) && character(0x41).is_none(),
@@ -109,19 +114,20 @@ fn marked_cases() -> Vec<bool> {
 
 /// Of 256 bytes, how many are exact, corrected, refused.
 fn counts() -> (usize, usize, usize) {
-    let all = || 0..=255u8;
+    let all = || (0..=255u8).map(decode);
     (
-        all().filter(|byte| exact(*byte)).count(),
-        all().filter(|byte| !exact(*byte) && message(*byte).is_some()).count(),
-        all().filter(|byte| message(*byte).is_none()).count(),
+        all().filter(|decoded| matches!(decoded, Decoded::Exact { .. })).count(),
+        all().filter(|decoded| matches!(decoded, Decoded::Corrected { .. })).count(),
+        all().filter(|decoded| *decoded == Decoded::Refused).count(),
     )
 }
 
 /// The published bytes are the exact ones, and a corrected byte is one bit away from its own.
 fn table_agrees() -> bool {
-    (0..=255u8).all(|byte| match message(byte) {
-        Some(m) => (byte ^ SENT[m as usize]).count_ones() == !test_d(byte) as u32,
-        None => SENT.iter().all(|sent| (byte ^ sent).count_ones() >= 2),
+    (0..=255u8).all(|byte| match decode(byte) {
+        Decoded::Exact { message } => byte == SENT[message as usize],
+        Decoded::Corrected { message, .. } => (byte ^ SENT[message as usize]).count_ones() == 1,
+        Decoded::Refused => SENT.iter().all(|sent| (byte ^ sent).count_ones() >= 2),
     })
 }
 

@@ -1,6 +1,7 @@
-//! The receiver for one selected page: selection, kinds, storing, opening, closing, recordings.
+//! The receiver for one selected page: selection, kinds, storing, opening, closing.
 
 use crate::bits::character;
+use crate::examined::mended;
 use crate::packet::{
     address, c4, data_line_refusal, forty, header, packet_of_line, thirty_two, zero_header, Address, Header,
 };
@@ -46,18 +47,20 @@ pub struct Receiver {
     pub marks: Vec<u8>,
 }
 
-/// The answer to one line: the number of refusal or 0, the kind, the count, the closing word.
+/// The answer to one line: the number of refusal or 0, the kind, the count, the closing word, and how
+/// many of its examined Hamming bytes were corrected.
 #[derive(Clone, PartialEq, Debug)]
 pub struct Answer {
     pub number: u8,
     pub kind: u8,
     pub count: u8,
     pub closing: u8,
+    pub mended: u8,
 }
 
-/// A refused line answers its number and otherwise zeros.
+/// A refused line answers its number and otherwise zeros: it counts no mended byte.
 fn refused(number: u8) -> Answer {
-    Answer { number, kind: 0, count: 0, closing: CLOSED_NONE }
+    Answer { number, kind: 0, count: 0, closing: CLOSED_NONE, mended: 0 }
 }
 
 /// Hours tens 0 to 3, hours units 0 to 9, minutes tens 0 to 7, minutes units 0 to 9.
@@ -287,7 +290,8 @@ fn stored(receiver: &mut Receiver, packet: &[u8]) -> u8 {
 /// The table of kinds, third column: the effect of a packet that is not refused.
 fn effect(receiver: &mut Receiver, record: &mut [u8], packet: &[u8]) -> Answer {
     let kind = kind_of(receiver, packet);
-    let mut answer = Answer { number: 0, kind, count: 0, closing: CLOSED_NONE };
+    let mended = mended(receiver.selection.magazine, packet);
+    let mut answer = Answer { number: 0, kind, count: 0, closing: CLOSED_NONE, mended };
     match kind {
         1 => answer.count = stored(receiver, packet),
         2 => {
@@ -352,24 +356,4 @@ pub fn receive_line_lent(receiver: &mut Receiver, record: &mut [u8], line: &[u8]
     let (answer, after) = receive_line(receiver, record, line);
     *receiver = after;
     answer
-}
-
-/// Where one call of the recording entry came to: the lines it used, and the stopping line's
-/// answer, or none at the recording's end.
-pub struct Played {
-    pub lines: usize,
-    pub stop: Option<Answer>,
-}
-
-/// The recording entry: plays lines until one is refused or closes a page.
-pub fn play(receiver: &mut Receiver, record: &mut [u8], recording: &[u8]) -> Played {
-    let mut lines = 0;
-    for line in recording.chunks(45) {
-        let answer = receive_line_lent(receiver, record, line);
-        lines += 1;
-        if answer.number != 0 || answer.closing != CLOSED_NONE {
-            return Played { lines, stop: Some(answer) };
-        }
-    }
-    Played { lines, stop: None }
 }

@@ -162,6 +162,35 @@ fn hamming_damage(line: &mut [u8], row: u8, most: u64, rate: u64, random: &mut R
     }
 }
 
+/// How many wrong bits each of the first ten bytes of a packet gets, by manner: none; one; none or one; any
+/// up to three; one in one byte alone; one in all but one byte; two in one byte and none or one in the
+/// others; some in the address alone; some in the eight after it alone.
+fn wrong_bits_by_manner(manner: u64, random: &mut Random) -> [u32; 10] {
+    let one = random.below(10) as usize;
+    match manner {
+        0 => [0; 10],
+        1 => [1; 10],
+        2 => [0; 10].map(|_| random.pick(&[0, 1])),
+        3 => [0; 10].map(|_| random.pick(&[0, 1, 2, 3])),
+        4 => std::array::from_fn(|place| (place == one) as u32),
+        5 => std::array::from_fn(|place| (place != one) as u32),
+        6 => std::array::from_fn(|place| if place == one { 2 } else { random.pick(&[0, 1]) }),
+        7 => std::array::from_fn(|place| if place < 2 { random.pick(&[0, 1, 2, 3]) } else { 0 }),
+        _ => std::array::from_fn(|place| if place < 2 { 0 } else { random.pick(&[0, 1, 1, 2]) }),
+    }
+}
+
+/// Exact, corrected and refused bytes in every mix, where the Hamming bytes of a row 0 are. In other rows
+/// only the address is spoiled, save in one of four.
+pub fn mixed_damage(line: &mut [u8], row: u8, random: &mut Random) {
+    let manner = random.below(9);
+    let spoiled = if row == 0 || random.once_in(4) { 10 } else { 2 };
+    let counts = wrong_bits_by_manner(manner, random);
+    for (byte, count) in line[3..13].iter_mut().zip(counts).take(spoiled) {
+        flip(byte, count, random);
+    }
+}
+
 /// Wrong bits in characters: an odd number of them, or any number, in one byte of every `rate`.
 pub fn character_damage(line: &mut [u8], row: u8, only_odd: bool, rate: u64, random: &mut Random) {
     for place in character_places(row) {

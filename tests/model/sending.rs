@@ -154,10 +154,10 @@ fn room(sent: &Sent) -> Vec<bool> {
     vec![sent.room[length..] == sent.room_before[length..], answer == (30, 0) && after == too_short]
 }
 
-/// Kind 2 with count 32, kind 1 with count 40 for each row, and the further line closes clean; no line
-/// before it touches the record: asked of each feeding.
+/// Kind 2 with count 32, kind 1 with count 40 for each row, no byte mended, and the further line closes
+/// clean; no line before it touches the record: asked of each feeding.
 fn answers(sent: &Sent) -> Vec<bool> {
-    let stored = |kind, count| Answer { number: 0, kind, count, closing: CLOSED_NONE };
+    let stored = |kind, count| Answer { number: 0, kind, count, closing: CLOSED_NONE, mended: 0 };
     let mut wanted = vec![stored(2, 32)];
     wanted.resize(1 + rows_wanted(&sent.wanted).len(), stored(1, 40));
     let holds = |feeding: &Feeding| {

@@ -3,6 +3,7 @@
 use crate::packet::{zero_header, Header};
 use crate::receiver::{Answer, Receiver, Selection, TimeCode};
 use crate::record::{Page, CELLS};
+use crate::recording::Mended;
 use crate::transmission::Wanted;
 
 pub const RECEIVER_LENGTH: usize = 1938;
@@ -156,9 +157,14 @@ pub fn place_of(x: &[u8]) -> u64 {
     x[..8].iter().fold(0, |place, byte| place * 256 + *byte as u64)
 }
 
-/// ANSWER, 4 bytes.
-pub fn answer_bytes(a: &Answer) -> [u8; 4] {
-    [a.number, a.kind, a.count, a.closing]
+/// ANSWER, 5 bytes.
+pub fn answer_bytes(a: &Answer) -> [u8; 5] {
+    [a.number, a.kind, a.count, a.closing, a.mended]
+}
+
+/// MENDED, 6 bytes: three numbers of two bytes.
+pub fn mended_bytes(mended: &Mended) -> Vec<u8> {
+    [mended.bytes, mended.lines, mended.own].map(two_bytes).concat()
 }
 
 /// A step of a run: its entry, its length in two bytes, and its bytes.

@@ -4,7 +4,8 @@
     make.py PROGRAM stdin      crates/PROGRAM/stdin
     make.py PROGRAM stdout     what it must write: crates/PROGRAM/stdout
 
-Cases and answers are put together from pieces in hexadecimal, worked out by hand from document 01 and requests 1 and 2 of document 02: nothing here computes an answer.
+Cases and answers are put together from pieces in hexadecimal, worked out by hand from document 01 and requests 1, 2 and 3 of document 02: nothing here computes an
+answer.
 """
 import os
 import sys
@@ -18,6 +19,16 @@ HEADER_100 = "40a8" + 8 * "a8" + 32 * "04"
 HEADER_101 = "40a8" + "40" + 7 * "a8" + 32 * "04"
 ROW_1 = "e3a8" + 40 * "04"
 
+# The same with wrong bits. With b1 wrong message 0 is 28, 9 is 63, 2 (which is 92) is 12 and 10 (which is 31) is B1; with b1 and b2 wrong 0 is 68, and is refused. Row 1 with both
+# address bytes mended, and with one; row 1 of magazine 2 with one; the header of page 101 with its second and its last control byte mended; a header of ours whose first control
+# byte is refused, and its other seven and its second address byte mended; a header of magazine 2 with a bit wrong in all of its ten Hamming bytes.
+MENDED_ROW_1 = "6328" + 40 * "04"
+HALF_MENDED_ROW_1 = "63a8" + 40 * "04"
+OTHER_ROW_1 = "b1a8" + 40 * "04"
+MENDED_101 = "40a8" + "40" + "28" + 5 * "a8" + "28" + 32 * "04"
+MENDED_AND_REFUSED = "4028" + "68" + 7 * "28" + 32 * "04"
+MENDED_200 = "1228" + 8 * "28" + 32 * "04"
+
 # Page 100 at any time; a receiver's two flags and header, with none open and with that page open.
 ANY_100 = "01" + 7 * "00"
 SHUT = "0000" + 8 * "00"
@@ -28,16 +39,21 @@ NEW = 960 * "20" + 960 * "00"
 HEADED = 960 * "20" + 8 * "00" + 32 * "02" + 920 * "00"
 ROWED = 960 * "20" + 8 * "00" + 72 * "02" + 880 * "00"
 
-# The clean record of page 100 with its header's text alone, and the page itself. Eight cells are nine bytes.
+# The clean record of page 100 with its header's text alone, and with row 1 too; and the page of the first. Eight cells are nine bytes.
 NEVER = "100804020100804020"
 FRESH = "904824120904824120"
 RECORD = "2000000010" + NEVER + 4 * FRESH + 23 * 5 * NEVER
+ROWED_RECORD = "2000000010" + NEVER + 9 * FRESH + 22 * 5 * NEVER
 PAGE = "01" + 7 * "00" + "0100" + 8 * "00" + HEADED
 
-# A lent record before a call. The length of a line, of a packet, and of the recording below: two lines and three bytes, and then those three.
+# A lent record before a call. The length of a line, of a packet, and of the recordings below: two lines and three bytes, and then those three; three lines.
 LENT = 1085 * "aa"
-LINE, PACKET, PLAYED, LEFT = "002d", "002a", "005d", "0003"
+LINE, PACKET, PLAYED, LEFT, THREE = "002d", "002a", "005d", "0003", "0087"
 RECORDING = START + HEADER_100 + START + HEADER_101 + START
+MENDED_RECORDING = START + HALF_MENDED_ROW_1 + START + OTHER_ROW_1 + START + MENDED_101
+
+# What a recording says of mended bytes where there are none: none, in no line, and none in the page's own lines.
+NONE_MENDED = "0000" + "0000" + "0000"
 
 LETTER, MOSAIC = b"L".hex(), b"C".hex()
 
@@ -70,7 +86,10 @@ SHORT_ROOM, ROOM = 89 * "bb", 93 * "bb"
 # Of each program: sort, input, record, answer.
 CASES = {
     "decode": [
-        ("b", "15", None, "a8 00 01 01 01 01 00 15"),
+        # Exact; b7 wrong, which test D alone tells; refused.
+        ("b", "15", None, "a8 00 01 01 01 01 00 00 15"),
+        ("b", "55", None, "aa 00 01 01 01 00 00 07 ff"),
+        ("b", "16", None, "68 00 01 00 00 01 ff ff 16"),
         ("n", START + HEADER_100, None, "00"),
         ("a", HEADER_100, None, "00 03 01 00" + "00" + 8 * "00" + 8 * "15" + 32 * "20"),
         # One unit: reserved bits set, parity 1, offset 7.
@@ -86,15 +105,22 @@ CASES = {
     ],
     "replay": [
         ("s", ANY_100, "", "00" + ANY_100 + SHUT + NEW),
-        ("r", ANY_100 + SHUT + NEW + STEP_L + LINE + START + HEADER_100, LENT, "00022000" + LENT + ANY_100 + OPEN + HEADED),
-        ("r", ANY_100 + OPEN + HEADED + STEP_M + LINE + START + HEADER_101, LENT, "00030001" + RECORD + ANY_100 + SHUT + HEADED),
-        ("r", ANY_100 + OPEN + HEADED + STEP_P + PACKET + ROW_1, LENT, "00012800" + LENT + ANY_100 + OPEN + ROWED),
+        ("r", ANY_100 + SHUT + NEW + STEP_L + LINE + START + HEADER_100, LENT, "0002200000" + LENT + ANY_100 + OPEN + HEADED),
+        ("r", ANY_100 + OPEN + HEADED + STEP_M + LINE + START + HEADER_101, LENT, "0003000100" + RECORD + ANY_100 + SHUT + HEADED),
+        ("r", ANY_100 + OPEN + HEADED + STEP_P + PACKET + ROW_1, LENT, "0001280000" + LENT + ANY_100 + OPEN + ROWED),
         # The header, an empty line, and another page's header.
         ("r", ANY_100 + SHUT + NEW + STEP_L + LINE + START + HEADER_100 + STEP_L + "0000" + STEP_L + LINE + START + HEADER_101, LENT,
-         "00022000" + LENT + "0a000000" + LENT + "00030001" + RECORD + ANY_100 + SHUT + HEADED),
+         "0002200000" + LENT + "0a00000000" + LENT + "0003000100" + RECORD + ANY_100 + SHUT + HEADED),
         # A recording that is stopped by another page's header, then by a line cut after three bytes, and is then at its end.
         ("r", ANY_100 + SHUT + NEW + STEP_R + PLAYED + RECORDING + STEP_R + LEFT + START + STEP_R + "0000", LENT,
-         "0002" + "00030001" + RECORD + "0001" + "0a000000" + RECORD + "0000" + "00ff0000" + RECORD + ANY_100 + SHUT + HEADED),
+         "0002" + NONE_MENDED + "0003000100" + RECORD + "0001" + NONE_MENDED + "0a00000000" + RECORD + "0000" + NONE_MENDED + "00ff000000" + RECORD + ANY_100 + SHUT + HEADED),
+        # Row 1 with two mended bytes, through the lent entry.
+        ("r", ANY_100 + OPEN + HEADED + STEP_M + LINE + START + MENDED_ROW_1, LENT, "0001280002" + LENT + ANY_100 + OPEN + ROWED),
+        # With none open, our header with eight bytes mended beside a refused one, and another magazine's, of which the address alone counts.
+        ("r", ANY_100 + SHUT + NEW + STEP_L + LINE + START + MENDED_AND_REFUSED + STEP_P + PACKET + MENDED_200, LENT,
+         "0005000008" + LENT + "0000000002" + LENT + ANY_100 + SHUT + NEW),
+        # A recording with a mended byte in our row, one in another magazine's, and two in the header that closes: four in three lines, and one in the page's own lines.
+        ("r", ANY_100 + OPEN + HEADED + STEP_R + THREE + MENDED_RECORDING, LENT, "0003" + "000400030001" + "0003000102" + ROWED_RECORD + ANY_100 + SHUT + ROWED),
         ("w", PAGE, LENT, "00" + RECORD),
         ("d", RECORD, "", "00" + PAGE),
         ("t", WANTED + RECORD, ROOM, "00 02" + SENT_START + HEADER_C4 + SENT_START + ROW_1 + 3 * "bb"),

@@ -80,7 +80,7 @@ live.expect(text)
 live.send(recording[:7])
 live.program.stdin.close()
 live.program.stdin = None
-live.end(b"the last line has 7 bytes and not 45\n9 lines, 1 refused by 10\n")
+live.end(b"the last line has 7 bytes and not 45\n9 lines, 1 refused by 10\n1 byte mended, in 1 of 9 lines\n")
 
 # A socket whose other end was closed with a byte unread gives what it holds, and then a read of it fails.
 given, other = socket.socketpair()
@@ -89,4 +89,4 @@ other.sendall(recording + recording[:7])
 other.close()
 live = Live(["receive", "100"], given)
 live.expect(text)
-live.end(b"standard input: Connection reset by peer\nthe last line has 7 bytes and not 45\n9 lines, 1 refused by 10\n")
+live.end(b"standard input: Connection reset by peer\nthe last line has 7 bytes and not 45\n9 lines, 1 refused by 10\n1 byte mended, in 1 of 9 lines\n")

@@ -2,7 +2,7 @@
 use mathlib.Core.Path.{_≡_}
 use mathlib.Core.Bool.{cond}
 use mathlib.Core.List.{List, [], _++_}
-use Prim.Native.Nat.{ℕ, zero, suc, _+_, _*_, _≤_}
+use Prim.Native.Nat.{ℕ, zero, suc, _+_, _*_, _^_, _<_, _≤_}
 use native.Mathlib.Omega.{arith}
 use lib.Dec.{lit≤, ltb}
 use lib.ListN.{length, take, drop, length-append}
@@ -13,11 +13,13 @@ use Rattle.page.specs.Records.{recordLength}
 use Rattle.page.specs.declared.Page.{Page}
 use Rattle.printing.specs.Pages.{lineFeed, pageSize, pageText}
 use Rattle.printing.proofs.Pages.{page-most}
+use Rattle.tally.specs.Tally.{mendedSize, mendedText}
+use Rattle.tally.proofs.Tallying.{mended-length}
 use Rattle.watch.specs.declared.Word.{Word}
 use Rattle.watch.specs.declared.Word.the-variants as word
 use Rattle.announcing.specs.Private.{cellsSaid}
 use Rattle.announcing.specs.Said.{headingSize, leftOutSize, longest}
-use Rattle.announcing.specs.Told.{announced, cleanText, doubtText, freshCharacters, headingText, leftOutText, leftOutWords, missingText, olderRows, oneOlder, pageSaid, rowNumber}
+use Rattle.announcing.specs.Told.{announced, cleanText, doubtText, freshCharacters, headingText, leftOutText, leftOutWords, lineText, missingText, olderRows, oneOlder, pageSaid, rowNumber}
 
 abbrev AtMost : ℕ → List ℕ → Type 0
 AtMost most text = length text ≤ most
@@ -46,10 +48,14 @@ left-out-length marks =
 
 -- ---- all that is said of a page
 
-module _ (page : Page) where
-  heading-length : (word : List ℕ) → length (headingText (page .magazine) (page .header) ++ word) ≡ headingSize + length word
-  unfolding headingText
-  heading-length word = length-append (headingText (page .magazine) (page .header)) word
+module _ (page : Page) (mended : ℕ) (counted : mended < 2 ^ 64) where
+  pub line-length : (word : List ℕ) → length (lineText page word mended) ≤ headingSize + (length word + mendedSize)
+  unfolding lineText headingText
+  line-length word =
+      let line = length-append (headingText (page .magazine) (page .header)) (word ++ mendedText mended) in
+      let both = length-append word (mendedText mended) in
+      let text = mended-length mended counted in
+      omega arith
 
   cells-length : length (cellsSaid (page .cells)) ≤ leftOutSize + pageSize
   cells-length =
@@ -58,17 +64,17 @@ module _ (page : Page) where
       let both = length-append (leftOutText (page .cells .marks)) (pageText (freshCharacters (page .cells))) in
       omega arith
 
-  said-length : (which : Word) → length (pageSaid which page) ≤ longest
+  said-length : (which : Word) → length (pageSaid which mended page) ≤ longest
   unfolding pageSaid
   said-length word.None = omega arith
   said-length word.Clean =
       let cells = cells-length in
-      let line = heading-length (cleanText ++ cellsSaid (page .cells)) in
-      let both = length-append cleanText (cellsSaid (page .cells)) in
+      let line = line-length cleanText in
+      let both = length-append (lineText page cleanText mended) (cellsSaid (page .cells)) in
       omega arith
-  said-length word.Doubt = let line = heading-length doubtText in omega arith
-  said-length word.Missing = let line = heading-length missingText in omega arith
+  said-length word.Doubt = let line = line-length doubtText in omega arith
+  said-length word.Missing = let line = line-length missingText in omega arith
 
-pub announced-length : (which : Word) (lent : List ℕ) → length (announced which lent) ≤ longest
+pub announced-length : (which : Word) (mended : ℕ) → mended < 2 ^ 64 → (lent : List ℕ) → length (announced which mended lent) ≤ longest
 unfolding announced
-announced-length which lent = said-length (pageRead (take recordLength lent)) which
+announced-length which mended counted lent = said-length (pageRead (take recordLength lent)) mended counted which

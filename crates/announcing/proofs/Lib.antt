@@ -1,6 +1,5 @@
 pub mod Fresh
 pub mod Lengths
-pub mod Putting
 pub mod Saying
 pub mod Unique
 pub mod Walking

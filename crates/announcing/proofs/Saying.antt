@@ -13,11 +13,13 @@ use lib.Seq.{drop-append-le, drop-drop, take-append-le}
 use Rattle.packet.specs.Lines.{lineLength}
 use Rattle.receiver.specs.Entries.{Entered, lineEntered}
 use Rattle.receiver.specs.Recordings.{Playing, ended, goesOn, played, playing, stoppedAt}
+use Rattle.receiver.specs.Mended.{broughtBy, noneMended, summed}
+use Rattle.receiver.specs.declared.Mended.{Mended}
 use Rattle.receiver.proofs.Playing.{turn, turn-ends}
-use Rattle.watch.specs.Watched.{linesPassed, recordingWatched}
+use Rattle.watch.specs.Watched.{linesPassed, recordingWatched, without}
 use Rattle.watch.specs.declared.Watched.{Watched}
 use Rattle.watch.specs.declared.Word.the-variants as word
-use Rattle.watch.proofs.Watching.{line-on, passed-none, recording-more}
+use Rattle.watch.proofs.Watching.{AtLeast, Covers, at-least-itself, at-least-less, at-least-more, covers-more, line-on, more-alone, one-stops, recording-more, without-both, without-none}
 use Rattle.announcing.specs.Private.{stopSaid}
 use Rattle.announcing.specs.Said.{Saying, lineSaid, linesSaid, said}
 use Rattle.announcing.specs.Told.{announced, pageSaid}
@@ -87,21 +89,23 @@ said-in-pieces (suc count) before first others e =
 
 -- ---- and stop by stop
 
--- what is left and said where playing has come so far, from a count of lines used
-afterPlay : Saying → ℕ → Playing → Saying
-afterPlay before used p =
-    let watched : Watched = recordingWatched (before .watch) (p .used - used) (p .receiver .«open») (p .stopped) in
+-- what is left and said where playing has come so far, from a count of lines used and the bytes mended in them
+afterPlay : Saying → ℕ → Mended → Playing → Saying
+afterPlay before used so p =
+    let watched : Watched = recordingWatched (before .watch) (p .used - used) (without (p .mended) so) (p .receiver .«open») (p .stopped) in
     record {
       receiver = p .receiver;
       watch = watched .watch;
       lent = p .lent;
-      text = before .text ++ announced (watched .word) (p .lent);
+      text = before .text ++ announced (watched .word) (watched .mended) (p .lent);
     }
 
 -- of some lines: playing uses one or more, and saying goes on behind them
-record Goes (before : Saying) (lines : List ℕ) (bound used : ℕ) (p : Playing) : Type 0 where
+record Goes (before : Saying) (lines : List ℕ) (bound used : ℕ) (so : Mended) (p : Playing) : Type 0 where
   more : used + 1 ≤ p .used
-  on : linesSaid bound before lines ≡ said (afterPlay before used p) (drop ((p .used - used) * lineLength) lines)
+  above : AtLeast (p .mended) so
+  covers : Covers (without (p .mended) so) (p .stopped)
+  on : linesSaid bound before lines ≡ said (afterPlay before used so p) (drop ((p .used - used) * lineLength) lines)
 
 -- the first line of some
 module _ (before : Saying) (lines : List ℕ) (d : length lines ≡ 0 → ⊥) where
@@ -111,40 +115,50 @@ module _ (before : Saying) (lines : List ℕ) (d : length lines ≡ 0 → ⊥) w
   abbrev first : Saying
   first = lineSaid before (take lineLength lines)
 
+  abbrev brings : Mended
+  brings = broughtBy (entry .answer)
+
   one-line : (used : ℕ) → (used + 1 - used) * lineLength ≡ lineLength
   one-line used = omega arith
 
+  one-more : (used : ℕ) → used + 1 - used ≡ 1
+  one-more used = omega arith
+
   -- it stops
-  stops-here : (used : ℕ) → afterPlay before used (stoppedAt entry (used + 1)) ≡ first
-  unfolding afterPlay stoppedAt lineSaid recordingWatched
-  stops-here used =
-      let one : used + 1 - used ≡ 1 = omega arith in
-      let watched = ap (λ (n : ℕ). recordingWatched (before .watch) n (entry .receiver .«open») (some (entry .answer))) one ∙ passed-none (before .watch) (entry .receiver .«open») (entry .answer) in
+  stops-here : (used : ℕ) (so : Mended) → afterPlay before used so (stoppedAt entry (used + 1) (summed so brings)) ≡ first
+  unfolding afterPlay stoppedAt lineSaid
+  stops-here used so =
+      let watched =
+      ap₂ (λ (n : ℕ) (m : Mended). recordingWatched (before .watch) n m (entry .receiver .«open») (some (entry .answer))) (one-more used) (more-alone so brings)
+      ∙ one-stops (before .watch) (entry .receiver .«open») (entry .answer)
+      in
       λ i.
       record {
         receiver = entry .receiver;
         watch = watched i .watch;
         lent = entry .lent;
-        text = before .text ++ announced (watched i .word) (entry .lent);
+        text = before .text ++ announced (watched i .word) (watched i .mended) (entry .lent);
       }
 
-  goes-stopped : (bound used : ℕ) → length lines ≤ suc bound → Goes before lines (suc bound) used (stoppedAt entry (used + 1))
+  goes-stopped : (bound used : ℕ) (so : Mended) → length lines ≤ suc bound → Goes before lines (suc bound) used so (stoppedAt entry (used + 1) (summed so brings))
   unfolding stoppedAt
-  goes-stopped bound used h =
+  goes-stopped bound used so h =
       record {
         more = omega arith;
+        above = at-least-more so brings;
+        covers = rw (more-alone so brings) (at-least-itself brings);
         on =
             said-on before lines bound d
             ∙ (enough bound first (drop lineLength lines) (less lines bound d h)
-            ∙ ap₂ (λ (s : Saying) (n : ℕ). said s (drop n lines)) (sym (stops-here used)) (sym (one-line used)));
+            ∙ ap₂ (λ (s : Saying) (n : ℕ). said s (drop n lines)) (sym (stops-here used so)) (sym (one-line used)));
       }
 
-  -- it goes on: it is one line more, and nothing is said of it
+  -- it goes on: it is one line more with its mended bytes, and nothing is said of it
   module _ (on : goesOn (entry .answer) ≡ true) where
     abbrev passed : Saying
-    passed = record { receiver = entry .receiver; watch = linesPassed (before .watch) 1; lent = entry .lent; text = before .text }
+    passed = record { receiver = entry .receiver; watch = linesPassed (before .watch) 1 brings; lent = entry .lent; text = before .text }
 
-    silent : (text : List ℕ) → text ++ announced word.None (entry .lent) ≡ text
+    silent : (text : List ℕ) → text ++ announced word.None 0 (entry .lent) ≡ text
     unfolding announced pageSaid
     silent text = append-nil text
 
@@ -157,107 +171,121 @@ module _ (before : Saying) (lines : List ℕ) (d : length lines ≡ 0 → ⊥) w
           receiver = entry .receiver;
           watch = watched i .watch;
           lent = entry .lent;
-          text = before .text ++ announced (watched i .word) (entry .lent);
+          text = before .text ++ announced (watched i .word) (watched i .mended) (entry .lent);
         })
-        ∙ ap (λ (text : List ℕ). record { receiver = entry .receiver; watch = linesPassed (before .watch) 1; lent = entry .lent; text = text }) (silent (before .text))
+        ∙ ap (λ (text : List ℕ). record { receiver = entry .receiver; watch = linesPassed (before .watch) 1 brings; lent = entry .lent; text = text }) (silent (before .text))
 
     -- to the end
-    ends-here : (used : ℕ) → afterPlay before used (ended (entry .receiver) (entry .lent) (used + 1)) ≡ passed
+    ends-here : (used : ℕ) (so : Mended) → afterPlay before used so (ended (entry .receiver) (entry .lent) (used + 1) (summed so brings)) ≡ passed
     unfolding afterPlay ended recordingWatched
-    ends-here used =
-        let one : used + 1 - used ≡ 1 = omega arith in
-        ap₂ (λ (n : ℕ) (text : List ℕ). record { receiver = entry .receiver; watch = linesPassed (before .watch) n; lent = entry .lent; text = text }) one (silent (before .text))
+    ends-here used so =
+        ap₂ (λ (n : ℕ) (m : Mended). record { receiver = entry .receiver; watch = linesPassed (before .watch) n m; lent = entry .lent; text = before .text ++ announced word.None 0 (entry .lent) })
+        (one-more used) (more-alone so brings)
+        ∙ ap (λ (text : List ℕ). record { receiver = entry .receiver; watch = linesPassed (before .watch) 1 brings; lent = entry .lent; text = text }) (silent (before .text))
 
-    goes-ended : (bound used : ℕ) → length (drop lineLength lines) ≡ 0 → Goes before lines (suc bound) used (ended (entry .receiver) (entry .lent) (used + 1))
+    goes-ended : (bound used : ℕ) (so : Mended) → length (drop lineLength lines) ≡ 0
+        → Goes before lines (suc bound) used so (ended (entry .receiver) (entry .lent) (used + 1) (summed so brings))
     unfolding ended
-    goes-ended bound used z =
+    goes-ended bound used so z =
         let same = ap (λ (n : ℕ). drop n lines) (one-line used) in
         record {
           more = omega arith;
+          above = at-least-more so brings;
+          covers = tt;
           on =
               said-on before lines bound d
               ∙ (ap (λ (s : Saying). linesSaid bound s (drop lineLength lines)) first-is
               ∙ (said-ends passed (drop lineLength lines) bound z
-              ∙ (sym (ends-here used)
-              ∙ sym (said-of-none (afterPlay before used (ended (entry .receiver) (entry .lent) (used + 1))) _ (ap length same ∙ z)))));
+              ∙ (sym (ends-here used so)
+              ∙ sym (said-of-none (afterPlay before used so (ended (entry .receiver) (entry .lent) (used + 1) (summed so brings))) _ (ap length same ∙ z)))));
         }
 
     -- or further
-    behind-it : (used : ℕ) (p : Playing) → used + 1 + 1 ≤ p .used → afterPlay passed (used + 1) p ≡ afterPlay before used p
-    unfolding afterPlay
-    behind-it used p h =
-        let count : 1 + (p .used - (used + 1)) ≡ p .used - used = omega arith in
-        let watched =
-        recording-more (before .watch) (p .receiver .«open») (p .stopped) (p .used - (used + 1)) (omega arith)
-        ∙ ap (λ (n : ℕ). recordingWatched (before .watch) n (p .receiver .«open») (p .stopped)) count
-        in
-        λ i.
-        record {
-          receiver = p .receiver;
-          watch = watched i .watch;
-          lent = p .lent;
-          text = before .text ++ announced (watched i .word) (p .lent);
-        }
+    module _ (used : ℕ) (so : Mended) (p : Playing) where
+      behind-it : used + 1 + 1 ≤ p .used → AtLeast (p .mended) (summed so brings) → Covers (without (p .mended) (summed so brings)) (p .stopped)
+          → afterPlay passed (used + 1) (summed so brings) p ≡ afterPlay before used so p
+      unfolding afterPlay
+      behind-it h above covers =
+          let count : 1 + (p .used - (used + 1)) ≡ p .used - used = omega arith in
+          let watched =
+          recording-more (before .watch) (p .receiver .«open») (p .stopped) (p .used - (used + 1)) brings (without (p .mended) (summed so brings)) (omega arith) covers
+          ∙ ap₂ (λ (n : ℕ) (m : Mended). recordingWatched (before .watch) n m (p .receiver .«open») (p .stopped)) count (without-both so brings (p .mended) above)
+          in
+          λ i.
+          record {
+            receiver = p .receiver;
+            watch = watched i .watch;
+            lent = p .lent;
+            text = before .text ++ announced (watched i .word) (watched i .mended) (p .lent);
+          }
 
-    goes-further : (bound used : ℕ) (p : Playing) → Goes passed (drop lineLength lines) bound (used + 1) p → Goes before lines (suc bound) used p
-    goes-further bound used p g =
-        let further = g .more in
-        let count : lineLength + (p .used - (used + 1)) * lineLength ≡ (p .used - used) * lineLength = omega arith in
-        record {
-          more = omega arith;
-          on =
-              said-on before lines bound d
-              ∙ (ap (λ (s : Saying). linesSaid bound s (drop lineLength lines)) first-is
-              ∙ (g .on
-              ∙ ap₂ said (behind-it used p further) (drop-drop ((p .used - (used + 1)) * lineLength) lineLength lines ∙ ap (λ (n : ℕ). drop n lines) count)));
-        }
+      goes-further : (bound : ℕ) → Goes passed (drop lineLength lines) bound (used + 1) (summed so brings) p → Goes before lines (suc bound) used so p
+      goes-further bound g =
+          let further = g .more in
+          let count : lineLength + (p .used - (used + 1)) * lineLength ≡ (p .used - used) * lineLength = omega arith in
+          record {
+            more = omega arith;
+            above = at-least-less so brings (g .above);
+            covers =
+                subst (λ (m : Mended). Covers m (p .stopped)) (without-both so brings (p .mended) (g .above))
+                (covers-more brings (without (p .mended) (summed so brings)) (p .stopped) (g .covers));
+            on =
+                said-on before lines bound d
+                ∙ (ap (λ (s : Saying). linesSaid bound s (drop lineLength lines)) first-is
+                ∙ (g .on
+                ∙ ap₂ said (behind-it further (g .above) (g .covers))
+                (drop-drop ((p .used - (used + 1)) * lineLength) lineLength lines ∙ ap (λ (n : ℕ). drop n lines) count)));
+          }
 
 by-case : {X : Type 0} (b : Bool) → (b ≡ true → X) → (b ≡ false → X) → X
 by-case true f g = f refl
 by-case false f g = g refl
 
-goes : (bound : ℕ) (before : Saying) (lines : List ℕ) (used : ℕ) → length lines ≤ bound → (length lines ≡ 0 → ⊥)
-    → Goes before lines bound used (playing bound (before .receiver) lines (before .lent) used)
-goes zero before lines used h d = absurd (d (omega arith))
-goes (suc bound) before lines used h d =
+goes : (bound : ℕ) (before : Saying) (lines : List ℕ) (used : ℕ) (so : Mended) → length lines ≤ bound → (length lines ≡ 0 → ⊥)
+    → Goes before lines bound used so (playing bound (before .receiver) lines (before .lent) used so)
+goes zero before lines used so h d = absurd (d (omega arith))
+goes (suc bound) before lines used so h d =
     let here = entry before lines d in
     let rest = drop lineLength lines in
-    let turned = turn (before .receiver) lines (before .lent) used bound d in
+    let more = summed so (brings before lines d) in
+    let turned = turn (before .receiver) lines (before .lent) used so bound d in
     by-case (goesOn (here .answer))
     (λ on.
-    subst (Goes before lines (suc bound) used) (sym (turned true on))
+    subst (Goes before lines (suc bound) used so) (sym (turned true on))
     (⊎-elim
     (λ (z : length rest ≡ 0).
-    subst (Goes before lines (suc bound) used) (sym (turn-ends (here .receiver) rest (here .lent) (used + 1) bound z)) (goes-ended before lines d on bound used z))
+    subst (Goes before lines (suc bound) used so) (sym (turn-ends (here .receiver) rest (here .lent) (used + 1) more bound z)) (goes-ended before lines d on bound used so z))
     (λ (e : length rest ≡ 0 → ⊥).
-    goes-further before lines d on bound used (playing bound (here .receiver) rest (here .lent) (used + 1))
-    (goes bound (passed before lines d on) rest (used + 1) (less lines bound d h) e))
+    goes-further before lines d on used so (playing bound (here .receiver) rest (here .lent) (used + 1) more) bound
+    (goes bound (passed before lines d on) rest (used + 1) more (less lines bound d h) e))
     (empty-or-not (length rest))))
-    (λ off. subst (Goes before lines (suc bound) used) (sym (turned false off)) (goes-stopped before lines d bound used h))
+    (λ off. subst (Goes before lines (suc bound) used so) (sym (turned false off)) (goes-stopped before lines d bound used so h))
 
 -- ---- what the loop over the stops needs
 
 module _ (before : Saying) (lines : List ℕ) (d : length lines ≡ 0 → ⊥) where
-  all-goes : Goes before lines (length lines) 0 (played (before .receiver) lines (before .lent))
-  unfolding played
-  all-goes = goes (length lines) before lines 0 (omega arith) d
-
-  pub some-used : 1 ≤ played (before .receiver) lines (before .lent) .used
-  some-used = let more = all-goes .more in omega arith
-
   abbrev whole : Playing
   whole = played (before .receiver) lines (before .lent)
 
-  from-start : afterPlay before 0 whole ≡ stopSaid before lines
+  all-goes : Goes before lines (length lines) 0 noneMended whole
+  unfolding played
+  all-goes = goes (length lines) before lines 0 noneMended (omega arith) d
+
+  pub some-used : 1 ≤ whole .used
+  some-used = let more = all-goes .more in omega arith
+
+  from-start : afterPlay before 0 noneMended whole ≡ stopSaid before lines
   unfolding afterPlay stopSaid
   from-start =
-      let watched = ap (λ (n : ℕ). recordingWatched (before .watch) n (whole .receiver .«open») (whole .stopped)) (sub-zero (whole .used)) in
+      let watched =
+      ap₂ (λ (n : ℕ) (m : Mended). recordingWatched (before .watch) n m (whole .receiver .«open») (whole .stopped)) (sub-zero (whole .used)) (without-none (whole .mended))
+      in
       λ i.
       record {
         receiver = whole .receiver;
         watch = watched i .watch;
         lent = whole .lent;
-        text = before .text ++ announced (watched i .word) (whole .lent);
+        text = before .text ++ announced (watched i .word) (watched i .mended) (whole .lent);
       }
 
   as-said : said before lines ≡ linesSaid (length lines) before lines

@@ -12,12 +12,14 @@ use Rattle.receiver.specs.declared.Recorded.{Recorded}
 use Rattle.watch.specs.Watched.{recordingWatched}
 use Rattle.watch.specs.declared.Watch.{Watch}
 use Rattle.watch.specs.declared.Watched.{Watched}
-use Rattle.announcing.specs.Private.{Puts, Stops, standing, stopSaid}
+use Rattle.texts.specs.Put.{Puts}
+use Rattle.watch.proofs.Watching.{page-counted}
+use Rattle.announcing.specs.Private.{Stops, standing, stopSaid}
 use Rattle.announcing.specs.Said.{Saying, SaysAs, fitting, longest, said}
 use Rattle.announcing.specs.Told.{announced}
 use Rattle.announcing.specs.declared.Announced.{Announced}
 use Rattle.announcing.proofs.Lengths.{announced-length}
-use Rattle.announcing.proofs.Putting.{as-text, put-none, put-then}
+use Rattle.texts.proofs.Putting.{as-text, put-none, put-then}
 use Rattle.announcing.proofs.Saying.{said-of-none, said-stop, some-used}
 
 -- ---- parts of lines
@@ -114,7 +116,9 @@ module _ {lines lent₀ room₀ : List ℕ} {start : Saying} {state : Announced}
       unfolding stopSaid
       text-short =
           let p = played (state .receiver) rest lent in
-          announced-length (recordingWatched (state .watch) (p .used) (p .receiver .«open») (p .stopped) .word) (p .lent)
+          let watched = recordingWatched (state .watch) (p .used) (p .mended) (p .receiver .«open») (p .stopped) in
+          let counted = page-counted (state .watch) (p .used) (p .mended) (p .receiver .«open») (p .stopped) in
+          announced-length (watched .word) (watched .mended) (omega arith) (p .lent)
 
       -- it is some way further
       pub further : state .used < next .used
@@ -168,15 +172,15 @@ walks-start lines lent room start u l =
 
 -- the watch of what was recorded is that of what was promised
 watched-as : (watch : Watch) (recorded : Recorded) {promised : Playing} {lent : List ℕ} → PlaysAs promised recorded lent
-    → recordingWatched watch (recorded .used) (recorded .receiver .«open») (playedPaper (recorded .answer))
-    ≡ recordingWatched watch (promised .used) (promised .receiver .«open») (promised .stopped)
-watched-as watch recorded plays i = recordingWatched watch (plays .counted i) (plays .kept i .«open») (plays .answered i)
+    → recordingWatched watch (recorded .used) (recorded .mended) (recorded .receiver .«open») (playedPaper (recorded .answer))
+    ≡ recordingWatched watch (promised .used) (promised .mended) (promised .receiver .«open») (promised .stopped)
+watched-as watch recorded plays i = recordingWatched watch (plays .counted i) (plays .mended i) (plays .kept i .«open») (plays .answered i)
 
 -- the recording played, the watch, and the text put behind what is there
 pub stops : (before : Announced) (lines lent room : List ℕ) (recorded : Recorded) (watched : Watched) {lent′ room′ : List ℕ} {bytes size : ℕ}
     → PlaysAs (played (before .receiver) lines lent) recorded lent′
-    → watched ≡ recordingWatched (before .watch) (recorded .used) (recorded .receiver .«open») (playedPaper (recorded .answer))
-    → Puts (announced (watched .word) lent′) room (before .length) room′ size
+    → watched ≡ recordingWatched (before .watch) (recorded .used) (recorded .mended) (recorded .receiver .«open») (playedPaper (recorded .answer))
+    → Puts (announced (watched .word) (watched .mended) lent′) room (before .length) room′ size
     → bytes ≡ min (recorded .used * lineLength) (length lines)
     → Stops before lines lent room (record { receiver = recorded .receiver; watch = watched .watch; used = before .used + bytes; length = size }) lent′ room′
 unfolding stopSaid
@@ -187,5 +191,5 @@ stops before lines lent room recorded watched plays watches put far =
       watched = ap (λ (w : Watched). w .watch) is;
       left = plays .left;
       used = ap (λ (n : ℕ). before .used + n) (far ∙ ap (λ (n : ℕ). min (n * lineLength) (length lines)) (plays .counted));
-      put = as-text put (ap₂ announced (ap (λ (w : Watched). w .word) is) (plays .left));
+      put = as-text put (ap₂ (λ (w : Watched) (l : List ℕ). announced (w .word) (w .mended) l) is (plays .left));
     }

@@ -12,18 +12,10 @@ use Rattle.printing.specs.Pages.{pageText}
 use Rattle.receiver.specs.Recordings.{Playing, played}
 use Rattle.watch.specs.Watched.{recordingWatched}
 use Rattle.watch.specs.declared.Watched.{Watched}
+use Rattle.texts.specs.Put.{Puts}
 use Rattle.announcing.specs.Said.{Saying}
 use Rattle.announcing.specs.Told.{announced, freshCharacters, leftOutText}
 use Rattle.announcing.specs.declared.Announced.{Announced}
-
--- a text laid over a room from a place on
-abbrev pub laidAt : List ℕ → ℕ → List ℕ → List ℕ
-laidAt room at text = (take at room ++ text) ++ drop (at + length text) room
-
--- it was put there, and this is the place behind it
-pub record Puts (text room : List ℕ) (at : ℕ) (after : List ℕ) (end : ℕ) : Type 0 where
-  pub laid : after ≡ laidAt room at text
-  pub ends : end ≡ at + length text
 
 -- cells as many as a page has
 abbrev pub Whole : Cells → Type 0
@@ -42,12 +34,12 @@ cellsSaid cells = leftOutText (cells .marks) ++ pageText (freshCharacters cells)
 unfoldable pub stopSaid : Saying → List ℕ → Saying
 stopSaid before lines =
     let playing : Playing = played (before .receiver) lines (before .lent) in
-    let watched : Watched = recordingWatched (before .watch) (playing .used) (playing .receiver .«open») (playing .stopped) in
+    let watched : Watched = recordingWatched (before .watch) (playing .used) (playing .mended) (playing .receiver .«open») (playing .stopped) in
     record {
       receiver = playing .receiver;
       watch = watched .watch;
       lent = playing .lent;
-      text = before .text ++ announced (watched .word) (playing .lent);
+      text = before .text ++ announced (watched .word) (watched .mended) (playing .lent);
     }
 
 -- a state of the walk over some lines, with what was said so far

@@ -11,6 +11,8 @@ use Rattle.packet.specs.Lines.{lineLength}
 use Rattle.printing.specs.Pages.{pageSize}
 use Rattle.receiver.specs.Entries.{Entered, lineEntered}
 use Rattle.receiver.specs.declared.Receiver.{Receiver}
+use Rattle.tally.specs.Tally.{mendedSize, shareHeld}
+use Rattle.tally.specs.declared.ShareText.{ShareText}
 use Rattle.watch.specs.Watched.{lineWatched}
 use Rattle.watch.specs.declared.Watch.{Watch}
 use Rattle.watch.specs.declared.Watched.{Watched}
@@ -33,7 +35,7 @@ lineSaid before line =
       receiver = entry .receiver;
       watch = watched .watch;
       lent = entry .lent;
-      text = before .text ++ announced (watched .word) (entry .lent);
+      text = before .text ++ announced (watched .word) (watched .mended) (entry .lent);
     }
 
 -- at most so many lines
@@ -48,6 +50,10 @@ unfoldable pub said : Saying → List ℕ → Saying
 unfolding linesSaid
 said before lines = linesSaid (length lines) before lines
 
+-- when there are no more lines: how many bytes were mended in all of them, in how many, and how many there were
+abbrev pub shareSaid : Watch → ShareText
+shareSaid watch = shareHeld (watch .mended) (watch .«mended_lines») (watch .lines)
+
 -- ---- what one call does
 
 -- "page 100 at 12:34:", and the most that the line of rows left out can take: three bytes for each row
@@ -59,7 +65,7 @@ leftOutSize = length leftOutWords + 3 * rows + 1
 
 -- the most that is said of a line, which is of a clean page
 abbrev pub longest : ℕ
-longest = headingSize + length cleanText + leftOutSize + pageSize
+longest = headingSize + length cleanText + mendedSize + leftOutSize + pageSize
 
 -- the lines that a room has room for, whatever is said of them
 unfoldable pub fitting : List ℕ → List ℕ → List ℕ

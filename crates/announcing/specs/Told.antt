@@ -14,6 +14,7 @@ use Rattle.page.specs.Records.{recordLength}
 use Rattle.page.specs.declared.Cells.{Cells}
 use Rattle.page.specs.declared.Page.{Page}
 use Rattle.printing.specs.Pages.{lineFeed, pageText}
+use Rattle.tally.specs.Tally.{mendedText}
 use Rattle.watch.specs.declared.Word.{Word}
 use Rattle.watch.specs.declared.Word.the-variants as word
 
@@ -31,19 +32,24 @@ headingText magazine header =
     ∷ 0x20 ∷ 0x61 ∷ 0x74 ∷ 0x20 ∷ digitText (header .«hours_tens») ∷ digitText (header .«hours_units») ∷ 0x3A
     ∷ digitText (header .«minutes_tens») ∷ digitText (header .«minutes_units») ∷ 0x3A ∷ []
 
--- " clean"
+-- " clean, "
 abbrev pub cleanText : List ℕ
-cleanText = 0x20 ∷ 0x63 ∷ 0x6C ∷ 0x65 ∷ 0x61 ∷ 0x6E ∷ lineFeed
+cleanText = 0x20 ∷ 0x63 ∷ 0x6C ∷ 0x65 ∷ 0x61 ∷ 0x6E ∷ 0x2C ∷ 0x20 ∷ []
 
--- " doubt"
+-- " doubt, "
 abbrev pub doubtText : List ℕ
-doubtText = 0x20 ∷ 0x64 ∷ 0x6F ∷ 0x75 ∷ 0x62 ∷ 0x74 ∷ lineFeed
+doubtText = 0x20 ∷ 0x64 ∷ 0x6F ∷ 0x75 ∷ 0x62 ∷ 0x74 ∷ 0x2C ∷ 0x20 ∷ []
 
--- " doubt, lines are missing"
+-- " doubt, lines are missing, "
 abbrev pub missingText : List ℕ
 missingText =
     0x20 ∷ 0x64 ∷ 0x6F ∷ 0x75 ∷ 0x62 ∷ 0x74 ∷ 0x2C ∷ 0x20 ∷ 0x6C ∷ 0x69 ∷ 0x6E ∷ 0x65 ∷ 0x73 ∷ 0x20 ∷ 0x61 ∷ 0x72 ∷ 0x65
-    ∷ 0x20 ∷ 0x6D ∷ 0x69 ∷ 0x73 ∷ 0x73 ∷ 0x69 ∷ 0x6E ∷ 0x67 ∷ lineFeed
+    ∷ 0x20 ∷ 0x6D ∷ 0x69 ∷ 0x73 ∷ 0x73 ∷ 0x69 ∷ 0x6E ∷ 0x67 ∷ 0x2C ∷ 0x20 ∷ []
+
+-- "page 100 at 12:34: clean, 3 bytes mended"
+unfoldable pub lineText : Page → List ℕ → ℕ → List ℕ
+unfolding headingText mendedText
+lineText page word mended = headingText (page .magazine) (page .header) ++ (word ++ mendedText mended)
 
 -- ---- what was sent this time
 
@@ -86,17 +92,16 @@ unfoldable pub leftOutText : List ℕ → List ℕ
 unfolding oneOlder olderRows
 leftOutText marks = cond (oneOlder marks) (leftOutWords ++ (olderRows rows marks ++ lineFeed)) []
 
--- ---- all that is said of a page, by the word
+-- ---- all that is said of a page, by the word and by how many bytes were mended in its own lines
 
-unfoldable pub pageSaid : Word → Page → List ℕ
-unfolding headingText leftOutText freshCharacters pageText
-pageSaid word.None page = []
-pageSaid word.Clean page =
-    headingText (page .magazine) (page .header) ++ (cleanText ++ (leftOutText (page .cells .marks) ++ pageText (freshCharacters (page .cells))))
-pageSaid word.Doubt page = headingText (page .magazine) (page .header) ++ doubtText
-pageSaid word.Missing page = headingText (page .magazine) (page .header) ++ missingText
+unfoldable pub pageSaid : Word → ℕ → Page → List ℕ
+unfolding lineText leftOutText freshCharacters pageText
+pageSaid word.None mended page = []
+pageSaid word.Clean mended page = lineText page cleanText mended ++ (leftOutText (page .cells .marks) ++ pageText (freshCharacters (page .cells)))
+pageSaid word.Doubt mended page = lineText page doubtText mended
+pageSaid word.Missing mended page = lineText page missingText mended
 
 -- of the record that was written as the page closed: what lies past it does not matter
-unfoldable pub announced : Word → List ℕ → List ℕ
+unfoldable pub announced : Word → ℕ → List ℕ → List ℕ
 unfolding pageSaid pageRead
-announced which lent = pageSaid which (pageRead (take recordLength lent))
+announced which mended lent = pageSaid which mended (pageRead (take recordLength lent))

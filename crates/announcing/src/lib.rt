@@ -9,9 +9,11 @@ ghost use Rattle.packet.specs.Lines.{lineLength};
 ghost use Rattle.page.specs.Reading.{pageRead};
 ghost use Rattle.page.specs.Records.{recordLength};
 ghost use Rattle.printing.specs.Pages.{pageSize};
-ghost use Rattle.announcing.specs.Private.{Printable, Puts, Stops, Whole, cellsSaid};
-ghost use Rattle.announcing.specs.Said.{SaysAs, fitting, headingSize, leftOutSize, longest, starting};
-ghost use Rattle.announcing.specs.Told.{announced, digitText, freshCharacters, headingText, leftOutText, olderRows, oneOlder, rowNumber, sentNow};
+ghost use Rattle.texts.specs.Put.{Puts};
+ghost use Rattle.tally.specs.Tally.{mendedSize, mendedText, shareSize};
+ghost use Rattle.announcing.specs.Private.{Printable, Stops, Whole, cellsSaid};
+ghost use Rattle.announcing.specs.Said.{SaysAs, fitting, headingSize, leftOutSize, longest, shareSaid, starting};
+ghost use Rattle.announcing.specs.Told.{announced, digitText, freshCharacters, headingText, leftOutText, lineText, olderRows, oneOlder, rowNumber, sentNow};
 use grid::CELLS;
 use grid::COLUMNS;
 use grid::ROWS;
@@ -25,20 +27,22 @@ use page::RECORD_LENGTH;
 use page::SPACE;
 use printing::PAGE;
 use receiver::Receiver;
+use tally::MENDED;
+use tally::ShareText;
 use watch::Watch;
 use watch::Word;
 
 // "page 100 at 12:34:"
 const HEADING: usize = 18;
 
-// " clean" and a line feed.
-const CLEAN: usize = 7;
+// " clean, "
+const CLEAN: usize = 8;
 
 // "rows from earlier, left out:", three bytes for each row, and a line feed.
 const LEFT_OUT: usize = 28 + 3 * ROWS + 1;
 
 // The most that is said of a line, which is of a clean page.
-pub const LONGEST: usize = HEADING + CLEAN + LEFT_OUT + PAGE;
+pub const LONGEST: usize = HEADING + CLEAN + MENDED + LEFT_OUT + PAGE;
 
 // After some lines: the receiver, the watch beside it, how many bytes of the lines were used, and how many of the room the text takes.
 pub struct Announced {
@@ -86,12 +90,7 @@ fn put(room: &mut [u8], at: usize, text: &[u8]) -> usize
     requires { ⌜ at + length (now text) ≤ length (now room) ⌝ }
     ensures { λ r. ⌜ Puts (now (text .entry)) (now (room .entry)) at (now (room .exit)) r ⌝ }
 {
-    let mut i = 0;
-    while i < text.len() {
-        room[at + i] = text[i];
-        i += 1;
-    }
-    at + text.len()
+    texts::put(room, at, text)
 }
 
 // Whether one of some marks is older.
@@ -195,8 +194,8 @@ fn put_cells(room: &mut [u8], at: usize, cells: Cells) -> usize
     put(room, rows, &text)
 }
 
-// The line that says what closed.
-fn put_line(room: &mut [u8], at: usize, page: Page, word: &[u8]) -> usize
+// What closed, and its word.
+fn put_heading(room: &mut [u8], at: usize, page: Page, word: &[u8]) -> usize
     requires { ⌜ at + (headingSize + length (now word)) ≤ length (now room) ⌝ }
     ensures { λ r. ⌜ Puts (headingText (page .magazine) (page .header) ++ now (word .entry)) (now (room .entry)) at (now (room .exit)) r ⌝ }
 {
@@ -204,6 +203,25 @@ fn put_line(room: &mut [u8], at: usize, page: Page, word: &[u8]) -> usize
     let heading = heading(page.magazine, header);
     let end = put(room, at, &heading);
     put(room, end, word)
+}
+
+// How many bytes were mended in its own lines.
+fn put_mended(room: &mut [u8], at: usize, mended: u64) -> usize
+    requires { ⌜ at + mendedSize ≤ length (now room) ⌝ }
+    ensures { λ r. ⌜ Puts (mendedText mended) (now (room .entry)) at (now (room .exit)) r ⌝ }
+{
+    let text = tally::mended_text(mended);
+    let bytes = text.bytes;
+    put(room, at, &bytes[..text.used])
+}
+
+// The line that says both.
+fn put_line(room: &mut [u8], at: usize, page: Page, word: &[u8], mended: u64) -> usize
+    requires { ⌜ at + (headingSize + (length (now word) + mendedSize)) ≤ length (now room) ⌝ }
+    ensures { λ r. ⌜ Puts (lineText page (now (word .entry)) mended) (now (room .entry)) at (now (room .exit)) r ⌝ }
+{
+    let end = put_heading(room, at, page, word);
+    put_mended(room, end, mended)
 }
 
 // The record alone, where more was lent.
@@ -224,21 +242,27 @@ fn page_in(record: &[u8]) -> Page
     page
 }
 
-// All that is said of a line by its word, from the record that was written where it closed a page.
-fn put_announced(room: &mut [u8], at: usize, word: Word, record: &[u8]) -> usize
+// All that is said of a line by its word and by how many bytes were mended, from the record that was written where it closed a page.
+fn put_announced(room: &mut [u8], at: usize, word: Word, mended: u64, record: &[u8]) -> usize
     requires { ⌜ at + longest ≤ length (now room) ⌝ }
-    ensures { λ r. ⌜ Puts (announced word (now («record» .entry))) (now (room .entry)) at (now (room .exit)) r ⌝ }
+    ensures { λ r. ⌜ Puts (announced word mended (now («record» .entry))) (now (room .entry)) at (now (room .exit)) r ⌝ }
 {
     match word {
         Word::None => at,
         Word::Clean => {
             let page = page_in(record);
-            let line = put_line(room, at, page, b" clean\n");
+            let line = put_line(room, at, page, b" clean, ", mended);
             let cells = page.cells;
             put_cells(room, line, cells)
         }
-        Word::Doubt => put_line(room, at, page_in(record), b" doubt\n"),
-        Word::Missing => put_line(room, at, page_in(record), b" doubt, lines are missing\n"),
+        Word::Doubt => put_line(room, at, page_in(record), b" doubt, ", mended),
+        Word::Missing => put_line(
+            room,
+            at,
+            page_in(record),
+            b" doubt, lines are missing, ",
+            mended,
+        ),
     }
 }
 
@@ -262,7 +286,7 @@ fn to_next_stop(before: Announced, lines: &[u8], record: &mut [u8], room: &mut [
     let watch = before.watch;
     let watched = watch::watch_recording(watch, recorded);
     let word = watched.word;
-    let length = put_announced(room, before.length, word, record);
+    let length = put_announced(room, before.length, word, watched.mended, record);
     let next = recorded.receiver;
     let more = watched.watch;
     Announced {
@@ -304,4 +328,12 @@ pub fn announce(
         state = next;
     }
     state
+}
+
+// What is said when there are no more lines: how many bytes were mended, and in how many of the lines. The second promise is for callers, who lend the text on.
+pub fn share_of(watch: Watch) -> ShareText
+    ensures { λ r. ⌜ r ≡ shareSaid watch ⌝ }
+    ensures { λ r. ⌜ (length (r .bytes) ≡ shareSize) × (r .used ≤ shareSize) ⌝ }
+{
+    tally::share_text(watch.mended, watch.mended_lines, watch.lines)
 }

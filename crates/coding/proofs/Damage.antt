@@ -1,22 +1,23 @@
 -- What damage does to one byte: a sent Hamming byte with at most one wrong bit, or two, and a sent character byte with an odd number of wrong bits.
-use mathlib.Core.Path.{_≡_, refl, ap, _∙_}
+use mathlib.Core.Path.{_≡_, refl, ap, _∙_, subst}
 use mathlib.Core.Logic.{_⊎_}
-use mathlib.Core.Bool.{not, _||_}
+use mathlib.Core.Bool.{not, _&&_, _||_}
 use mathlib.Core.Option.{none, some}
 use Prim.Native.Nat.{ℕ, zero, suc, _+_, _*_, _/_, _%_, _≤_, _<_, min}
 use native.Mathlib.Nat.{mod-lt}
 use native.Mathlib.Omega.{arith}
-use borrow.Author.Tests.{ne-eqb}
+use borrow.Author.Tests.{eq-eqb, ne-eqb}
 use lib.Arith.{bin-ind}
 use lib.Bits.{bitAnd, bitXor, differ, and-step, xor-step, xor-add-and, and-le-l, and-le-r}
 use lib.Count.{ones, ones-step, ones-cat}
 use lib.Dec.{T, eqb, eqb→eq, lit<}
 use Rattle.laws.specs.Below.{allBelow}
-use Rattle.laws.proofs.Below.{at}
-use Rattle.laws.proofs.Bools.{passed, where-asked}
+use Rattle.laws.specs.Digits.{weight}
+use Rattle.laws.proofs.Below.{at, equal-at}
+use Rattle.laws.proofs.Bools.{both-right, passed, where-asked}
 use Rattle.coding.specs.Bits.{odd, distance}
 use Rattle.coding.specs.Characters.{character}
-use Rattle.coding.specs.Hamming.{sentMessage, testsOf, exact, messageBits, message}
+use Rattle.coding.specs.Hamming.{sentMessage, testsOf, exact, corrected, holds, over, messageBits, message}
 use Rattle.coding.proofs.Hamming.{bits-small, mends, never-another}
 
 -- ---- counts of ones
@@ -81,6 +82,11 @@ exact-sent byte h t =
     (where-asked (exact (testsOf byte)) (eqb (sentMessage (messageBits byte)) byte)
     (at 256 (λ b. not (exact (testsOf b)) || eqb (sentMessage (messageBits b)) b) exact-each byte h) t)
 
+-- test D of a byte counts all its ones
+counts-all : (byte : ℕ) → byte < 256 → testsOf byte .d ≡ odd (ones byte)
+unfolding allBelow testsOf holds over weight
+counts-all byte h = ap (λ (n : ℕ). odd (ones n)) (equal-at 256 (λ b. bitAnd b 0xFF) (λ b. b) tt byte h)
+
 -- ---- a character byte
 
 pub character-odd : (byte : ℕ) → T (odd (ones byte)) → character byte ≡ some (byte % 128)
@@ -101,6 +107,19 @@ module _ (s r : ℕ) (s-is : s < 256) (r-is : r < 256) where
   -- at most two: that, or a refusal
   pub hamming-two : T (exact (testsOf s)) → distance r s ≤ 2 → (message r ≡ some (messageBits s)) ⊎ (message r ≡ none)
   hamming-two t h = never-another (messageBits s) r (bits-small s) r-is (rw (exact-sent s s-is t) h)
+
+  -- and at most one bit off it is corrected just where it is off
+  pub hamming-off : T (exact (testsOf s)) → distance r s ≤ 1 → corrected (testsOf r) ≡ not (eqb (distance r s) 0)
+  unfolding exact corrected odd distance
+  hamming-off t h = ap not (counts-all r r-is ∙ by-distance (ones (bitXor r s)) refl h)
+    where
+      sent-odd : ones s % 2 ≡ 1
+      sent-odd = eqb→eq (ones s % 2) 1 (subst T (counts-all s s-is) (both-right (testsOf s .a && testsOf s .b && testsOf s .c) (testsOf s .d) t))
+
+      by-distance : (far : ℕ) → ones (bitXor r s) ≡ far → far ≤ 1 → eqb (ones r % 2) 1 ≡ eqb far 0
+      by-distance zero e near = eq-eqb (ones r % 2) 1 (omega (arith, ones-xor r s, sent-odd))
+      by-distance (suc zero) e near = ne-eqb (ones r % 2) 1 (λ odd. omega (arith, ones-xor r s, sent-odd))
+      by-distance (suc (suc far)) e near = absurd (omega arith)
 
   -- a character byte as it was sent
   pub character-kept : T (odd (ones s)) → distance r s ≡ 0 → character r ≡ some (s % 128)

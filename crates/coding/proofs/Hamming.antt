@@ -7,34 +7,62 @@ use mathlib.Core.Option.{Option, none, some}
 use Prim.Native.Nat.{ℕ, zero, suc, _≤_, _<_}
 use native.Mathlib.Omega.{arith}
 use lib.Bits.{bitXor}
-use lib.Dec.{T, eqb, eqb→eq}
+use lib.Dec.{T, eqb, eqb→eq, lit≤}
 use Rattle.laws.specs.Below.{allBelow, countBelow}
 use Rattle.laws.proofs.Below.{at}
 use Rattle.laws.proofs.Bools.{both-left, both-right}
 use Rattle.laws.proofs.Found.{is, is-it, isNone, is-none}
+use Rattle.laws.proofs.Keeps.{either}
 use Rattle.laws.specs.Digits.{bit, weight}
 use Rattle.coding.specs.Bits.{distance}
-use Rattle.coding.specs.Hamming.{Decoded, exactly, mendedAt, refused, sentMessage, testsOf, exact, corrected, mended, judged, decoded, messageBits, messageIn, message}
+use Rattle.coding.specs.Hamming.{sentMessage, testsOf, wrongBit, exact, corrected, mended, judged, decoded, messageBits, messageIn, message}
+use Rattle.coding.specs.declared.Decoded.{Decoded}
+use Rattle.coding.specs.declared.Decoded.the-variants.{Exact, Corrected, Refused}
 
--- ---- a message is below 16
+-- ---- a message is below 16, and a position one of 1 to 8
 
 abbrev pub Small : Option ℕ → Type 0
 Small none = Unit {0}
 Small (some m) = m < 16
 
-cond-small : (t : Bool) (x y : Decoded) → Small (messageIn x) → Small (messageIn y) → Small (messageIn (cond t x y))
-cond-small true x y p q = p
-cond-small false x y p q = q
+abbrev pub Ranged : Decoded → Type 0
+Ranged (Exact m) = m < 16
+Ranged (Corrected m position) = (m < 16) × (1 ≤ position) × (position ≤ 8)
+Ranged Refused = Unit {0}
 
 pub bits-small : (byte : ℕ) → messageBits byte < 16
 unfolding messageBits bit weight
 bits-small byte = omega arith
 
+wrong-in : (a b c : Bool) → (1 ≤ wrongBit a b c) × (wrongBit a b c ≤ 8)
+unfolding wrongBit
+wrong-in true true true = (lit≤ tt, lit≤ tt)
+wrong-in false true true = (lit≤ tt, lit≤ tt)
+wrong-in true false true = (lit≤ tt, lit≤ tt)
+wrong-in false false true = (lit≤ tt, lit≤ tt)
+wrong-in true true false = (lit≤ tt, lit≤ tt)
+wrong-in false true false = (lit≤ tt, lit≤ tt)
+wrong-in true false false = (lit≤ tt, lit≤ tt)
+wrong-in false false false = (lit≤ tt, lit≤ tt)
+
+pub ranged : (byte : ℕ) → Ranged (decoded byte)
+unfolding decoded judged
+ranged byte =
+    let tests = testsOf byte in
+    let position = wrongBit (tests .a) (tests .b) (tests .c) in
+    either Ranged (exact tests) (Exact (messageBits byte)) _ (bits-small byte)
+    (either Ranged (corrected tests) (Corrected (messageBits (mended tests byte)) position) Refused
+    (let place = wrong-in (tests .a) (tests .b) (tests .c) in (bits-small (mended tests byte), place .0, place .1)) tt)
+
+small-in : (d : Decoded) → Ranged d → Small (messageIn d)
+unfolding messageIn
+small-in (Exact m) r = r
+small-in (Corrected m position) r = r .0
+small-in Refused r = tt
+
 pub small : (byte : ℕ) → Small (message byte)
-unfolding message messageIn decoded judged
-small byte =
-    cond-small (exact (testsOf byte)) _ _ (bits-small byte)
-    (cond-small (corrected (testsOf byte)) _ refused (bits-small (mended (testsOf byte) byte)) tt)
+unfolding message
+small byte = small-in (decoded byte) (ranged byte)
 
 -- ---- what is sent and what is received: one test over all messages and bytes
 
@@ -92,9 +120,9 @@ module _ (m byte : ℕ) (m-is : m < 16) (byte-is : byte < 256) where
 
 -- a message's byte with one bit wrong is corrected, to that message, and the bit is named
 abbrev mendsAt : ℕ → ℕ → Decoded → Bool
-mendsAt m position (exactly value) = false
-mendsAt m position (mendedAt value place) = eqb value m && eqb place position
-mendsAt m position refused = false
+mendsAt m position (Exact value) = false
+mendsAt m position (Corrected value place) = eqb value m && eqb place position
+mendsAt m position Refused = false
 
 -- the byte of m with the bit after b(n) wrong
 abbrev wrongAfter : ℕ → ℕ → ℕ
@@ -104,15 +132,15 @@ all-named : T (allBelow 16 (λ m. allBelow 8 (λ n. mendsAt m (suc n) (decoded (
 unfolding allBelow sentMessage decoded weight
 all-named = tt
 
-mends-at : (m position : ℕ) (got : Decoded) → T (mendsAt m position got) → got ≡ mendedAt m position
-mends-at m position (exactly value) t = absurd t
-mends-at m position (mendedAt value place) t =
-    ap₂ mendedAt (eqb→eq value m (both-left (eqb value m) (eqb place position) t))
+mends-at : (m position : ℕ) (got : Decoded) → T (mendsAt m position got) → got ≡ Corrected m position
+mends-at m position (Exact value) t = absurd t
+mends-at m position (Corrected value place) t =
+    ap₂ Corrected (eqb→eq value m (both-left (eqb value m) (eqb place position) t))
     (eqb→eq place position (both-right (eqb value m) (eqb place position) t))
-mends-at m position refused t = absurd t
+mends-at m position Refused t = absurd t
 
 -- for all sixteen messages and all eight positions
-pub wrong-bit-named : (m position : ℕ) → m < 16 → 1 ≤ position → position ≤ 8 → decoded (bitXor (sentMessage m) (weight position)) ≡ mendedAt m position
+pub wrong-bit-named : (m position : ℕ) → m < 16 → 1 ≤ position → position ≤ 8 → decoded (bitXor (sentMessage m) (weight position)) ≡ Corrected m position
 wrong-bit-named m zero h low high = absurd (omega arith)
 wrong-bit-named m (suc n) h low high =
     mends-at m (suc n) (decoded (wrongAfter m n))

@@ -9,8 +9,10 @@ use lib.ListN.{getD}
 use Rattle.laws.specs.Paper.{Paper, accepted, unnumbered}
 use Rattle.laws.specs.Digits.{weight, bit}
 use Rattle.coding.specs.Bits.{odd}
+use Rattle.coding.specs.declared.Decoded.{Decoded}
+use Rattle.coding.specs.declared.Decoded.the-variants.{Exact, Corrected, Refused}
 use Rattle.coding.specs.declared.Message.{Message}
-use Rattle.coding.specs.declared.Message.the-variants.{Good, Refused}
+use Rattle.coding.specs.declared.Message.the-variants as messages
 use Rattle.coding.specs.declared.Tests.{Tests}
 
 -- messages 0 to 15 are sent as
@@ -75,18 +77,13 @@ unfoldable pub mended : Tests → ℕ → ℕ
 unfolding wrongBit weight
 mended tests byte = bitXor byte (weight (wrongBit (tests .a) (tests .b) (tests .c)))
 
--- what a byte is: exact, with its message; corrected, with its message and the position of its wrong bit, 1 to 8; or refused
-pub data Decoded : Type 0 where
-  exactly : ℕ → Decoded
-  mendedAt : ℕ → ℕ → Decoded
-  refused : Decoded
-
--- by its tests: refused where D holds and another fails
+-- what a byte is by its tests: exact, with its message; corrected, with its message and the position of its wrong bit, 1 to 8; or refused, where D holds
+-- and another fails
 unfoldable pub judged : Tests → ℕ → Decoded
 unfolding exact corrected mended messageBits wrongBit
 judged tests byte =
-    cond (exact tests) (exactly (messageBits byte))
-    (cond (corrected tests) (mendedAt (messageBits (mended tests byte)) (wrongBit (tests .a) (tests .b) (tests .c))) refused)
+    cond (exact tests) (Exact (messageBits byte))
+    (cond (corrected tests) (Corrected (messageBits (mended tests byte)) (wrongBit (tests .a) (tests .b) (tests .c))) Refused)
 
 unfoldable pub decoded : ℕ → Decoded
 unfolding judged testsOf
@@ -94,16 +91,30 @@ decoded byte = judged (testsOf byte) byte
 
 -- the message of a byte, or none where it is refused
 unfoldable pub messageIn : Decoded → Option ℕ
-messageIn (exactly value) = some value
-messageIn (mendedAt value position) = some value
-messageIn refused = none
+messageIn (Exact value) = some value
+messageIn (Corrected value position) = some value
+messageIn Refused = none
 
 unfoldable pub message : ℕ → Option ℕ
 unfolding messageIn decoded
 message byte = messageIn (decoded byte)
 
--- the paper's number and values: a refused Hamming byte is an answer without a number
+-- how many of some bytes are corrected: document 02, request 3, "by 01's tests"
+unfoldable pub howManyCorrected : List ℕ → ℕ
+unfolding corrected testsOf
+howManyCorrected [] = 0
+howManyCorrected (byte ∷ others) = cond (corrected (testsOf byte)) 1 0 + howManyCorrected others
+
+-- the paper's number and values: an exact byte has its message, a corrected one its message and the position of its wrong bit; a refused Hamming byte is an
+-- answer without a number
+unfoldable pub decodedPaper : Decoded → Paper
+unfolding accepted unnumbered
+decodedPaper (Exact value) = accepted (value ∷ [])
+decodedPaper (Corrected value position) = accepted (value ∷ position ∷ [])
+decodedPaper Refused = unnumbered
+
+-- the same of a message alone, where it is not asked whether its byte was corrected
 unfoldable pub messagePaper : Message → Paper
 unfolding accepted unnumbered
-messagePaper (Good value) = accepted (value ∷ [])
-messagePaper Refused = unnumbered
+messagePaper (messages.Good value) = accepted (value ∷ [])
+messagePaper messages.Refused = unnumbered

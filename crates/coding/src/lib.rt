@@ -7,11 +7,18 @@ ghost use Prim.Native.Nat.{_%_};
 ghost use Rattle.laws.specs.Paper.{oneOrNone};
 ghost use Rattle.coding.specs.Bits.{turnedByte, framingPasses};
 ghost use Rattle.coding.specs.Characters.{character, characterPaper, sentCharacter};
-ghost use Rattle.coding.specs.Hamming.{message, messagePaper, sentMessage, testsOf};
-use table::DECODED;
+ghost use Rattle.coding.specs.Hamming.{decoded, decodedPaper, messageIn, messagePaper, sentMessage, testsOf};
+use table::ENTRIES;
 use table::REFUSED;
 
-// What a Hamming byte holds: a message of 0 to 15, or more wrong bits than one.
+// What a Hamming byte is: exact, with a message of 0 to 15; corrected, with its message and the position of its wrong bit, 1 to 8; or refused, since more bits are wrong.
+pub enum Decoded {
+    Exact(u8),
+    Corrected { message: u8, position: u8 },
+    Refused,
+}
+
+// The message of a Hamming byte for whoever does not ask whether it was corrected.
 pub enum Message {
     Good(u8),
     Refused,
@@ -62,15 +69,34 @@ pub fn tests_of(byte: u8) -> Tests
     }
 }
 
-// The message of a Hamming byte, with one wrong bit mended.
-pub fn message_of(byte: u8) -> Message
-    ensures { λ r. ⌜ messagePaper r ≡ oneOrNone (message byte) ⌝ }
+// What a Hamming byte is, with one wrong bit mended.
+pub fn message_of(byte: u8) -> Decoded
+    ensures { λ r. ⌜ decodedPaper r ≡ decodedPaper (decoded byte) ⌝ }
 {
-    let entry = DECODED[byte as usize];
+    let entry = ENTRIES[byte as usize];
     if entry == REFUSED {
-        Message::Refused
+        return Decoded::Refused;
+    }
+    let message = entry % 16;
+    let position = entry / 16;
+    if position == 0 {
+        Decoded::Exact(message)
     } else {
-        Message::Good(entry)
+        Decoded::Corrected { message, position }
+    }
+}
+
+// The message alone, exact or corrected.
+pub fn message_in(decoded: Decoded) -> Message
+    ensures { λ r. ⌜ messagePaper r ≡ oneOrNone (messageIn decoded) ⌝ }
+{
+    match decoded {
+        Decoded::Exact(message) => Message::Good(message),
+        Decoded::Corrected {
+            message,
+            position: _,
+        } => Message::Good(message),
+        Decoded::Refused => Message::Refused,
     }
 }
 

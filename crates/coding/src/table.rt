@@ -1,263 +1,264 @@
-// The full table that document 01 names: for each byte, 00 first, its message, or `REFUSED`. The byte itself stands behind its entry.
+// The full table that document 01 names: for each byte, 00 first, the position of its wrong bit as the high digit, 0 where it is exact, and its message as the low
+// one; or `REFUSED`. The byte itself stands behind its entry.
 
-// No message: the messages end at 15.
-pub const REFUSED: u8 = 16;
+// No entry: positions end at 8.
+pub const REFUSED: u8 = 0x90;
 
-pub const DECODED: [u8; 256] = [
-    1, // 00
+pub const ENTRIES: [u8; 256] = [
+    0x21, // 00
     REFUSED, // 01
-    1, // 02
-    1, // 03
+    0x01, // 02
+    0x11, // 03
     REFUSED, // 04
-    0, // 05
-    1, // 06
+    0x50, // 05
+    0x31, // 06
     REFUSED, // 07
     REFUSED, // 08
-    2, // 09
-    1, // 0A
+    0x72, // 09
+    0x41, // 0A
     REFUSED, // 0B
-    10, // 0C
+    0x8A, // 0C
     REFUSED, // 0D
     REFUSED, // 0E
-    7, // 0F
+    0x67, // 0F
     REFUSED, // 10
-    0, // 11
-    1, // 12
+    0x30, // 11
+    0x51, // 12
     REFUSED, // 13
-    0, // 14
-    0, // 15
+    0x10, // 14
+    0x00, // 15
     REFUSED, // 16
-    0, // 17
-    6, // 18
+    0x20, // 17
+    0x66, // 18
     REFUSED, // 19
     REFUSED, // 1A
-    11, // 1B
+    0x8B, // 1B
     REFUSED, // 1C
-    0, // 1D
-    3, // 1E
+    0x40, // 1D
+    0x73, // 1E
     REFUSED, // 1F
     REFUSED, // 20
-    12, // 21
-    1, // 22
+    0x8C, // 21
+    0x61, // 22
     REFUSED, // 23
-    4, // 24
+    0x74, // 24
     REFUSED, // 25
     REFUSED, // 26
-    7, // 27
-    6, // 28
+    0x47, // 27
+    0x56, // 28
     REFUSED, // 29
     REFUSED, // 2A
-    7, // 2B
+    0x37, // 2B
     REFUSED, // 2C
-    7, // 2D
-    7, // 2E
-    7, // 2F
-    6, // 30
+    0x27, // 2D
+    0x17, // 2E
+    0x07, // 2F
+    0x46, // 30
     REFUSED, // 31
     REFUSED, // 32
-    5, // 33
+    0x75, // 33
     REFUSED, // 34
-    0, // 35
-    13, // 36
+    0x60, // 35
+    0x8D, // 36
     REFUSED, // 37
-    6, // 38
-    6, // 39
-    6, // 3A
+    0x06, // 38
+    0x16, // 39
+    0x26, // 3A
     REFUSED, // 3B
-    6, // 3C
+    0x36, // 3C
     REFUSED, // 3D
     REFUSED, // 3E
-    7, // 3F
+    0x57, // 3F
     REFUSED, // 40
-    2, // 41
-    1, // 42
+    0x42, // 41
+    0x71, // 42
     REFUSED, // 43
-    4, // 44
+    0x64, // 44
     REFUSED, // 45
     REFUSED, // 46
-    9, // 47
-    2, // 48
-    2, // 49
+    0x89, // 47
+    0x12, // 48
+    0x02, // 49
     REFUSED, // 4A
-    2, // 4B
+    0x22, // 4B
     REFUSED, // 4C
-    2, // 4D
-    3, // 4E
+    0x32, // 4D
+    0x53, // 4E
     REFUSED, // 4F
-    8, // 50
+    0x88, // 50
     REFUSED, // 51
     REFUSED, // 52
-    5, // 53
+    0x65, // 53
     REFUSED, // 54
-    0, // 55
-    3, // 56
+    0x70, // 55
+    0x43, // 56
     REFUSED, // 57
     REFUSED, // 58
-    2, // 59
-    3, // 5A
+    0x52, // 59
+    0x33, // 5A
     REFUSED, // 5B
-    3, // 5C
+    0x23, // 5C
     REFUSED, // 5D
-    3, // 5E
-    3, // 5F
-    4, // 60
+    0x03, // 5E
+    0x13, // 5F
+    0x34, // 60
     REFUSED, // 61
     REFUSED, // 62
-    5, // 63
-    4, // 64
-    4, // 65
-    4, // 66
+    0x55, // 63
+    0x04, // 64
+    0x14, // 65
+    0x24, // 66
     REFUSED, // 67
     REFUSED, // 68
-    2, // 69
-    15, // 6A
+    0x62, // 69
+    0x8F, // 6A
     REFUSED, // 6B
-    4, // 6C
+    0x44, // 6C
     REFUSED, // 6D
     REFUSED, // 6E
-    7, // 6F
+    0x77, // 6F
     REFUSED, // 70
-    5, // 71
-    5, // 72
-    5, // 73
-    4, // 74
+    0x25, // 71
+    0x15, // 72
+    0x05, // 73
+    0x54, // 74
     REFUSED, // 75
     REFUSED, // 76
-    5, // 77
-    6, // 78
+    0x35, // 77
+    0x76, // 78
     REFUSED, // 79
     REFUSED, // 7A
-    5, // 7B
+    0x45, // 7B
     REFUSED, // 7C
-    14, // 7D
-    3, // 7E
+    0x8E, // 7D
+    0x63, // 7E
     REFUSED, // 7F
     REFUSED, // 80
-    12, // 81
-    1, // 82
+    0x6C, // 81
+    0x81, // 82
     REFUSED, // 83
-    10, // 84
+    0x4A, // 84
     REFUSED, // 85
     REFUSED, // 86
-    9, // 87
-    10, // 88
+    0x79, // 87
+    0x3A, // 88
     REFUSED, // 89
     REFUSED, // 8A
-    11, // 8B
-    10, // 8C
-    10, // 8D
-    10, // 8E
+    0x5B, // 8B
+    0x0A, // 8C
+    0x1A, // 8D
+    0x2A, // 8E
     REFUSED, // 8F
-    8, // 90
+    0x78, // 90
     REFUSED, // 91
     REFUSED, // 92
-    11, // 93
+    0x4B, // 93
     REFUSED, // 94
-    0, // 95
-    13, // 96
+    0x80, // 95
+    0x6D, // 96
     REFUSED, // 97
     REFUSED, // 98
-    11, // 99
-    11, // 9A
-    11, // 9B
-    10, // 9C
+    0x2B, // 99
+    0x1B, // 9A
+    0x0B, // 9B
+    0x5A, // 9C
     REFUSED, // 9D
     REFUSED, // 9E
-    11, // 9F
-    12, // A0
-    12, // A1
+    0x3B, // 9F
+    0x1C, // A0
+    0x0C, // A1
     REFUSED, // A2
-    12, // A3
+    0x2C, // A3
     REFUSED, // A4
-    12, // A5
-    13, // A6
+    0x3C, // A5
+    0x5D, // A6
     REFUSED, // A7
     REFUSED, // A8
-    12, // A9
-    15, // AA
+    0x4C, // A9
+    0x7F, // AA
     REFUSED, // AB
-    10, // AC
+    0x6A, // AC
     REFUSED, // AD
     REFUSED, // AE
-    7, // AF
+    0x87, // AF
     REFUSED, // B0
-    12, // B1
-    13, // B2
+    0x5C, // B1
+    0x3D, // B2
     REFUSED, // B3
-    13, // B4
+    0x2D, // B4
     REFUSED, // B5
-    13, // B6
-    13, // B7
-    6, // B8
+    0x0D, // B6
+    0x1D, // B7
+    0x86, // B8
     REFUSED, // B9
     REFUSED, // BA
-    11, // BB
+    0x6B, // BB
     REFUSED, // BC
-    14, // BD
-    13, // BE
+    0x7E, // BD
+    0x4D, // BE
     REFUSED, // BF
-    8, // C0
+    0x58, // C0
     REFUSED, // C1
     REFUSED, // C2
-    9, // C3
+    0x39, // C3
     REFUSED, // C4
-    9, // C5
-    9, // C6
-    9, // C7
+    0x29, // C5
+    0x19, // C6
+    0x09, // C7
     REFUSED, // C8
-    2, // C9
-    15, // CA
+    0x82, // C9
+    0x6F, // CA
     REFUSED, // CB
-    10, // CC
+    0x7A, // CC
     REFUSED, // CD
     REFUSED, // CE
-    9, // CF
-    8, // D0
-    8, // D1
-    8, // D2
+    0x49, // CF
+    0x08, // D0
+    0x18, // D1
+    0x28, // D2
     REFUSED, // D3
-    8, // D4
+    0x38, // D4
     REFUSED, // D5
     REFUSED, // D6
-    9, // D7
-    8, // D8
+    0x59, // D7
+    0x48, // D8
     REFUSED, // D9
     REFUSED, // DA
-    11, // DB
+    0x7B, // DB
     REFUSED, // DC
-    14, // DD
-    3, // DE
+    0x6E, // DD
+    0x83, // DE
     REFUSED, // DF
     REFUSED, // E0
-    12, // E1
-    15, // E2
+    0x7C, // E1
+    0x4F, // E2
     REFUSED, // E3
-    4, // E4
+    0x84, // E4
     REFUSED, // E5
     REFUSED, // E6
-    9, // E7
-    15, // E8
+    0x69, // E7
+    0x2F, // E8
     REFUSED, // E9
-    15, // EA
-    15, // EB
+    0x0F, // EA
+    0x1F, // EB
     REFUSED, // EC
-    14, // ED
-    15, // EE
+    0x5E, // ED
+    0x3F, // EE
     REFUSED, // EF
-    8, // F0
+    0x68, // F0
     REFUSED, // F1
     REFUSED, // F2
-    5, // F3
+    0x85, // F3
     REFUSED, // F4
-    14, // F5
-    13, // F6
+    0x4E, // F5
+    0x7D, // F6
     REFUSED, // F7
     REFUSED, // F8
-    14, // F9
-    15, // FA
+    0x3E, // F9
+    0x5F, // FA
     REFUSED, // FB
-    14, // FC
-    14, // FD
+    0x1E, // FC
+    0x0E, // FD
     REFUSED, // FE
-    14, // FF
+    0x2E, // FF
 ];

@@ -15,6 +15,7 @@ use page::Page;
 use page::RECORD_LENGTH;
 use receiver::Answer;
 use receiver::Closing;
+use receiver::Mended;
 use receiver::Receiver;
 use receiver::Selection;
 use receiver::When;
@@ -39,12 +40,17 @@ fn number_of(answer: Answer) -> u8 {
             kind,
             count,
             closing,
-        } => kind ^ count ^ closing_number(closing),
+            mended,
+        } => kind ^ count ^ closing_number(closing) ^ mended,
         Answer::Unlawful => 18,
         Answer::ShortRecord => 12,
         Answer::WrongLength => 10,
         Answer::WrongFraming => 11,
     }
+}
+
+fn mended_number(mended: Mended) -> u8 {
+    (mended.bytes % 256) as u8 ^ (mended.lines % 256) as u8 ^ (mended.own % 256) as u8
 }
 
 // A character of what a turn gave, another one at each turn.
@@ -115,7 +121,8 @@ fn by_recording(
     while turn < count {
         let recorded = receiver::take_recording(current, lines, record);
         let characters = recorded.receiver.cells.characters;
-        sum = sum ^ (recorded.used % 256) as u8 ^ characters[turn % CELLS];
+        let mended = recorded.mended;
+        sum = sum ^ (recorded.used % 256) as u8 ^ mended_number(mended) ^ characters[turn % CELLS];
         if carried {
             current = recorded.receiver;
         }

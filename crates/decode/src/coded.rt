@@ -1,19 +1,24 @@
 // Sorts b, n and a: a byte, a data-line's framing, a packet's address, header and text.
 use coding::Character;
-use coding::Message;
+use coding::Decoded;
 use packet::Address;
 use packet::Framed;
 use packet::Header;
 use packet::HeaderRead;
 use packet::ZERO_HEADER;
 
-// In the place of what is not read: a message, a character, a header's messages.
+// In the place of what is not read: a message, its wrong bit, a character, a header's messages.
 const REFUSED: u8 = 0xFF;
 
-fn message_byte(byte: u8) -> u8 {
+// In the place of the wrong bit where there is none.
+const NO_BIT: u8 = 0;
+
+// The message, and its wrong bit.
+fn message_bytes(byte: u8) -> [u8; 2] {
     match coding::message_of(byte) {
-        Message::Good(message) => message,
-        Message::Refused => REFUSED,
+        Decoded::Exact(message) => [message, NO_BIT],
+        Decoded::Corrected { message, position } => [message, position],
+        Decoded::Refused => [REFUSED, REFUSED],
     }
 }
 
@@ -27,6 +32,7 @@ fn character_byte(byte: u8) -> u8 {
 pub(crate) fn answer_byte(input: &[u8]) {
     let byte = cases::byte_at(input, 0);
     let tests = coding::tests_of(byte);
+    let message = message_bytes(byte);
     let answer = [
         coding::turned(byte),
         coding::framing_passes(byte) as u8,
@@ -34,7 +40,8 @@ pub(crate) fn answer_byte(input: &[u8]) {
         tests.b as u8,
         tests.c as u8,
         tests.d as u8,
-        message_byte(byte),
+        message[0],
+        message[1],
         character_byte(byte),
     ];
     cases::put(&answer);

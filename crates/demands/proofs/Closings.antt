@@ -36,7 +36,7 @@ use Rattle.receiver.proofs.Writes.{page-written}
 use Rattle.demands.specs.Demands.{A, B, Follows, Holds, Ready, Received, RowHolds, recordAfter, throughout}
 use Rattle.demands.specs.Runs.{Run, closingOf, entryAt, lastText, receivedAt, rowPart, sentAt}
 use Rattle.demands.proofs.Keeping.{Opening, RowIs, header-ends, is-end, row-is}
-use Rattle.demands.proofs.Through.{Stands, closing-entered, entry-is, held-at, lent-entered, lentAt, line-at, outcomeAt, packetAt, receiverAt, standing}
+use Rattle.demands.proofs.Through.{Stands, closing-entered, entry-is, held-at, lent-entered, lentAt, line-at, mendedAt, outcomeAt, packetAt, receiverAt, standing}
 use Rattle.demands.proofs.Told.{length-sent, whole-sent}
 
 -- ---- a row of the page, from its cells
@@ -163,21 +163,24 @@ module _ (run : Run) (ready : Ready run) (j d : ℕ) (mild : d ≤ throughout) (
   stands : Stands run receiver lent
   stands = standing run ready j
 
-  entry : entryAt run j ≡ entered outcome
+  abbrev mended : ℕ
+  mended = mendedAt run ready j
+
+  entry : entryAt run j ≡ entered outcome mended
   entry = entry-is run ready d j sent damaged
 
   closed-clean : Clean receiver (packetAt run ready j) lent outcome
   closed-clean =
       clean-closing receiver (packetAt run ready j) lent
       (clean-is (outcome .closing)
-      (sym (closing-entered outcome) ∙ (ap closingOf (sym entry) ∙ word)))
+      (sym (closing-entered outcome mended) ∙ (ap closingOf (sym entry) ∙ word)))
 
   pub was-going : Going receiver
   was-going = (closed-clean .was-open, closed-clean .undoubted)
 
   record-is : recordAfter run j ≡ recordOf (held receiver)
   record-is =
-      record-first receiver lent (entryAt run j .lent) (ap (λ (e : Entered). e .lent) entry ∙ (lent-entered outcome ∙ closed-clean .wrote))
+      record-first receiver lent (entryAt run j .lent) (ap (λ (e : Entered). e .lent) entry ∙ (lent-entered outcome mended ∙ closed-clean .wrote))
 
   reads-held : (readAnswer (recordOf (held receiver)) ≡ Read) × (pageRead (recordOf (held receiver)) ≡ held receiver)
   reads-held = held-reads receiver (stands .is) (stands .sized) (closed-clean .was-open)

@@ -2,6 +2,7 @@ pub mod Chains
 pub mod Closings
 pub mod Keeping
 pub mod Marked
+pub mod Mended
 pub mod Passing
 pub mod Recorded
 pub mod Through

@@ -31,7 +31,7 @@ use Rattle.demands.specs.Demands.{C, Follows, Light, Passes, Ready, Rece
 use Rattle.demands.specs.Runs.{Run, characterBytes, closingOf, countOf, entryAt, kindOf, lineAt, receivedAt, sentAt}
 use Rattle.demands.proofs.Closings.{follows-here, one-header, received-here}
 use Rattle.demands.proofs.Keeping.{Held, Opening, ends-is, is-end, is-row, opened-here, row-is}
-use Rattle.demands.proofs.Through.{closing-entered, count-entered, entry-is, held-further, kind-entered, lentAt, line-within, outcomeAt, receiver-after, receiverAt, standing}
+use Rattle.demands.proofs.Through.{closing-entered, count-entered, entry-is, held-further, kind-entered, lentAt, line-within, mendedAt, outcomeAt, receiver-after, receiverAt, standing}
 use Rattle.demands.proofs.Told.{kept-found}
 
 -- ---- one line within one wrong bit
@@ -158,7 +158,7 @@ module _ (run : Run) (ready : Ready run) (i j : ℕ) (matched : T (matches (run 
   kind-i : kindOf (entryAt run i) ≡ 2
   kind-i =
       ap kindOf (entry-is run ready lightly i sent-i damaged-i)
-      ∙ (kind-entered (outcomeAt run ready i) ∙ opens-kind (before i) (linePacket (r i)) (lentAt run ready i) (outcomeAt run ready i) opening)
+      ∙ (kind-entered (outcomeAt run ready i) (mendedAt run ready i) ∙ opens-kind (before i) (linePacket (r i)) (lentAt run ready i) (outcomeAt run ready i) opening)
 
   -- ---- what is held from there on, without doubt
 
@@ -216,7 +216,7 @@ module _ (run : Run) (ready : Ready run) (i j : ℕ) (matched : T (matches (run 
       closes (before j) (s j) (r j) (lentAt run ready j) sent-j damaged-j (ours ∙ sym (same-magazine j)) zeroth (keeps-j .0)
 
   word-j : closingOf (entryAt run j) ≡ closingNumber closing.Clean
-  word-j = ap closingOf (entry-is run ready lightly j sent-j damaged-j) ∙ (closing-entered (outcomeAt run ready j) ∙ ap closingNumber closing-clean)
+  word-j = ap closingOf (entry-is run ready lightly j sent-j damaged-j) ∙ (closing-entered (outcomeAt run ready j) (mendedAt run ready j) ∙ ap closingNumber closing-clean)
 
   -- line i is the one that opened the page
   opened-by-i : Opening run j (before j) i
@@ -234,7 +234,7 @@ module _ (run : Run) (ready : Ready run) (i j : ℕ) (matched : T (matches (run 
         kind = kind-i;
         count =
             ap countOf (entry-is run ready lightly i sent-i damaged-i)
-            ∙ (count-entered (outcomeAt run ready i)
+            ∙ (count-entered (outcomeAt run ready i) (mendedAt run ready i)
             ∙ opening-count (before i) (linePacket (r i)) (lentAt run ready i) (outcomeAt run ready i) opening sure-opening);
         word = word-j;
         reads = received .reads;

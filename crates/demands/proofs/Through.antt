@@ -11,6 +11,7 @@ use Rattle.packet.specs.Lines.{packetOf}
 use Rattle.packet.specs.Sent.{damage, linePacket, sentByRules}
 use Rattle.page.specs.Records.{recordLength}
 use Rattle.receiver.specs.Entries.{Entered, closingNumber, entered, lawful, made, newReceiver}
+use Rattle.receiver.specs.Mended.{packetMended}
 use Rattle.receiver.specs.Effects.{Outcome, taken}
 use Rattle.receiver.specs.Selections.{inRange}
 use Rattle.receiver.specs.declared.Receiver.{Receiver}
@@ -26,21 +27,21 @@ use Rattle.demands.proofs.Told.{line-taken}
 
 -- ---- an answer's kind, count and closing word
 
-pub kind-entered : (o : Outcome) → kindOf (entered o) ≡ o .kind
+pub kind-entered : (o : Outcome) (mended : ℕ) → kindOf (entered o mended) ≡ o .kind
 unfolding kindOf entered
-kind-entered o = refl
+kind-entered o mended = refl
 
-pub count-entered : (o : Outcome) → countOf (entered o) ≡ o .count
+pub count-entered : (o : Outcome) (mended : ℕ) → countOf (entered o mended) ≡ o .count
 unfolding countOf entered
-count-entered o = refl
+count-entered o mended = refl
 
-pub closing-entered : (o : Outcome) → closingOf (entered o) ≡ closingNumber (o .closing)
+pub closing-entered : (o : Outcome) (mended : ℕ) → closingOf (entered o mended) ≡ closingNumber (o .closing)
 unfolding closingOf entered
-closing-entered o = refl
+closing-entered o mended = refl
 
-pub lent-entered : (o : Outcome) → entered o .lent ≡ o .lent
+pub lent-entered : (o : Outcome) (mended : ℕ) → entered o mended .lent ≡ o .lent
 unfolding entered
-lent-entered o = refl
+lent-entered o mended = refl
 
 -- ---- the lines
 
@@ -87,6 +88,9 @@ module _ (run : Run) (ready : Ready run) where
   abbrev pub outcomeAt : ℕ → Outcome
   outcomeAt k = taken (receiverAt k) (packetAt k) (lentAt k)
 
+  abbrev pub mendedAt : ℕ → ℕ
+  mendedAt k = packetMended (receiverAt k) (packetAt k)
+
   -- each line leaves to the next what its entry gave
   pub left-receiver : (k : ℕ) → receiverAt (suc k) ≡ entryAt run k .receiver
   unfolding beforeLine entryAt
@@ -113,7 +117,7 @@ module _ (run : Run) (ready : Ready run) where
 
   -- a line within some damage is taken
   module _ (d k : ℕ) (sent : T (sentByRules (sentAt (run .lines) k))) (damaged : T (damage d (sentAt (run .lines) k) (receivedAt (run .lines) k))) where
-    pub entry-is : entryAt run k ≡ entered (outcomeAt k)
+    pub entry-is : entryAt run k ≡ entered (outcomeAt k) (mendedAt k)
     unfolding entryAt entering
     entry-is =
         line-taken d (sentAt (run .lines) k) (receivedAt (run .lines) k) sent damaged (receiverAt k) (standing k .is) (lentAt k) (standing k .room)
@@ -132,7 +136,7 @@ module _ (run : Run) (ready : Ready run) where
       let stands = standing run ready k in
       subst (Held run (suc k)) (sym (receiver-after run ready d k sent damaged))
       (held-after run k (receiverAt run ready k) (lentAt run ready k) (stands .selects) (stands .sized) d mild sent damaged held
-      (ap kindOf (entry-is run ready d k sent damaged) ∙ kind-entered (outcomeAt run ready k)))
+      (ap kindOf (entry-is run ready d k sent damaged) ∙ kind-entered (outcomeAt run ready k) (mendedAt run ready k)))
 
 module _ (run : Run) (fed : Fed run) where
   pub line-at : (k : ℕ) → k < length (run .lines) → T (sentByRules (sentAt (run .lines) k)) × T (damage throughout (sentAt (run .lines) k) (receivedAt (run .lines) k))

@@ -30,7 +30,7 @@ use Rattle.packet.proofs.Sent.{header-carries, header-two, received-packet, sec
 use Rattle.packet.proofs.Whole.{whole-text}
 use Rattle.page.specs.Records.{recordLength}
 use Rattle.receiver.specs.Cells.{firstColumn, oneMissing, rowFound}
-use Rattle.receiver.specs.Entries.{entered, lawful, lineEntered}
+use Rattle.receiver.specs.Entries.{lawful, lineEntered, packetGives}
 use Rattle.receiver.specs.Effects.{taken}
 use Rattle.receiver.specs.declared.Receiver.{Receiver}
 use Rattle.receiver.proofs.Entering.{line-is-taken}
@@ -42,10 +42,10 @@ use Rattle.demands.specs.Runs.{characterBytes}
 
 -- a line within the damage is taken
 pub line-taken : (d : ℕ) (s r : List ℕ) → T (sentByRules s) → T (damage d s r) → (receiver : Receiver) → T (lawful receiver) → (lent : List ℕ)
-    → recordLength ≤ length lent → lineEntered receiver r lent ≡ entered (taken receiver (linePacket r) lent)
+    → recordLength ≤ length lent → lineEntered receiver r lent ≡ packetGives receiver (linePacket r) lent
 line-taken d s r sent damaged receiver is lent long =
     line-is-taken receiver is lent long r (delivered d s r sent damaged)
-    ∙ ap (λ (packet : List ℕ). entered (taken receiver packet lent)) (delivered-packet d s r sent damaged)
+    ∙ ap (λ (packet : List ℕ). packetGives receiver packet lent) (delivered-packet d s r sent damaged)
 
 -- ---- the address
 

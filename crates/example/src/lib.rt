@@ -48,6 +48,7 @@ pub fn row_10(lines: &[u8]) -> u8 {
                 kind: _,
                 count: _,
                 closing,
+                mended: _,
             } => match closing {
                 Closing::None => 0,
                 Closing::Doubt => 0,

@@ -9,6 +9,7 @@ pub mod Keeps
 pub mod Lists
 pub mod Maps
 pub mod Opposite
+pub mod Padded
 pub mod Runs
 pub mod Table
 pub mod Tabulated

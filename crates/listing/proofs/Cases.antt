@@ -1,7 +1,8 @@
 -- Worked listings, computed from the definitions: the two fields that document 01 gives, the empty one, and units before a refusal.
 use mathlib.Core.Path.{_≡_, refl}
 use mathlib.Core.List.{[], _∷_, _++_}
-use Rattle.listing.specs.Lines.{most, listed, decimal}
+use Rattle.texts.specs.Decimal.{decimal}
+use Rattle.listing.specs.Lines.{most, listed}
 
 -- "1 255 0" and "end 3"
 pub stuffing : listed (0x99 ∷ 0xFF ∷ 0x00 ∷ []) ≡ 0x31 ∷ 0x20 ∷ 0x32 ∷ 0x35 ∷ 0x35 ∷ 0x20 ∷ 0x30 ∷ 0x0A ∷ 0x65 ∷ 0x6E ∷ 0x64 ∷ 0x20 ∷ 0x33 ∷ 0x0A ∷ []

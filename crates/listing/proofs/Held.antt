@@ -6,16 +6,18 @@ use native.Mathlib.Numerals.{add-one}
 use native.Mathlib.Omega.{arith}
 use lib.ListN.{length, take, getD, set, replicate, length-append, length-replicate}
 use lib.Seq.{length-take-le, take-suc, take-append-seam, set-append-seam}
-use Rattle.listing.specs.Lines.{decimal, refusedWord}
+use Rattle.laws.proofs.Padded.{one-longer, padded-length, padded-more, padded-text}
+use Rattle.texts.specs.Decimal.{decimal, mostDigits}
+use Rattle.texts.proofs.Decimal.{word-digits}
+use Rattle.listing.specs.Lines.{refusedWord}
 use Rattle.listing.specs.Held.{lineOf, room}
 use Rattle.listing.specs.Private.{textOf, Ready, Written}
 use Rattle.listing.specs.declared.Line.{Line}
-use Rattle.listing.proofs.Decimal.{mostDigits, word-digits}
 
 -- a line that holds a text
 pub text-of : (text : List ℕ) → textOf (lineOf text) ≡ text
 unfolding textOf lineOf
-text-of text = take-append-seam text (replicate (room - length text) 0)
+text-of text = padded-text room text
 
 module _ {line : Line} (text : List ℕ) (is : line ≡ lineOf text) where
   pub holds : textOf line ≡ text
@@ -33,24 +35,9 @@ module _ {line : Line} (text : List ℕ) (is : line ≡ lineOf text) where
 unfoldable pub grown : Line → ℕ → Line
 grown line byte = record { bytes = set (line .bytes) (line .used) byte; used = line .used + 1 }
 
-zeros : (n : ℕ) → n < room → replicate {A = ℕ} (room - n) 0 ≡ 0 ∷ replicate (room - (n + 1)) 0
-zeros n h = let one : room - n ≡ suc (room - (n + 1)) = omega arith in ap (λ (k : ℕ). replicate {A = ℕ} k 0) one
-
-module _ (text : List ℕ) (byte : ℕ) (h : length text < room) where
-  longer : length text + 1 ≡ length (text ++ (byte ∷ []))
-  longer = sym (length-append text (byte ∷ []))
-
-  stored : set (text ++ replicate (room - length text) 0) (length text) byte
-      ≡ (text ++ (byte ∷ [])) ++ replicate (room - length (text ++ (byte ∷ []))) 0
-  stored =
-      ap (λ (rest : List ℕ). set (text ++ rest) (length text) byte) (zeros (length text) h)
-      ∙ (set-append-seam text 0 (replicate (room - (length text + 1)) 0) byte
-      ∙ (ap (λ (n : ℕ). text ++ (byte ∷ replicate (room - n) 0)) longer
-      ∙ sym (append-assoc text (byte ∷ []) (replicate (room - length (text ++ (byte ∷ []))) 0))))
-
-  grown-line : grown (lineOf text) byte ≡ lineOf (text ++ (byte ∷ []))
-  unfolding grown lineOf
-  grown-line = rw (stored, longer)
+grown-line : (text : List ℕ) (byte : ℕ) → length text < room → grown (lineOf text) byte ≡ lineOf (text ++ (byte ∷ []))
+unfolding grown lineOf
+grown-line text byte h = rw (padded-more room text byte h, one-longer room text byte)
 
 pub put-is : (line : Line) (byte : ℕ) → Ready line 1 → grown line byte ≡ lineOf (textOf line ++ (byte ∷ []))
 put-is line byte r = ap (λ (l : Line). grown l byte) (r .whole) ∙ (let h = r .fits in grown-line (textOf line) byte (omega arith))
@@ -66,9 +53,7 @@ pub bytes-are : (line : Line) (more : ℕ) → Ready line more → length (line 
 unfolding lineOf
 bytes-are line more r =
     let h = r .fits in
-    ap (λ (l : Line). length (l .bytes)) (r .whole)
-    ∙ (length-append (textOf line) (replicate (room - length (textOf line)) 0)
-    ∙ (ap (λ (n : ℕ). length (textOf line) + n) (length-replicate (room - length (textOf line)) 0) ∙ (let k : length (textOf line) + (room - length (textOf line)) ≡ room = omega arith in k)))
+    ap (λ (l : Line). length (l .bytes)) (r .whole) ∙ padded-length room (textOf line) (omega arith)
 
 -- ---- more than one byte
 

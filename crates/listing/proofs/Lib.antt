@@ -1,6 +1,5 @@
 pub mod Answers
 pub mod Cases
-pub mod Decimal
 pub mod Held
 pub mod Listing
 pub mod Unique

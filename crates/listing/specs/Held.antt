@@ -1,8 +1,9 @@
 -- How a text is held: at the start of an array of 64 bytes, with zeros past it, and its length. And what the answers of the crate's functions are.
-use mathlib.Core.List.{List, _++_}
+use mathlib.Core.List.{List}
 use mathlib.Core.Option.{Option, none, some}
-use Prim.Native.Nat.{ℕ, _-_}
-use lib.ListN.{length, replicate}
+use Prim.Native.Nat.{ℕ}
+use lib.ListN.{length}
+use Rattle.laws.specs.Padded.{padded}
 use Rattle.listing.specs.Lines.{Told}
 use Rattle.listing.specs.declared.Line.{Line}
 use Rattle.listing.specs.declared.Listed.{Listed}
@@ -14,7 +15,7 @@ room = 64
 
 -- zeros past the text
 unfoldable pub lineOf : List ℕ → Line
-lineOf text = record { bytes = text ++ replicate (room - length text) 0; used = length text }
+lineOf text = record { bytes = padded room text; used = length text }
 
 pub record Held : Type 0 where
   pub line : Line

@@ -4,27 +4,14 @@
 use mathlib.Core.Bool.{cond}
 use mathlib.Core.List.{List, [], _∷_, _++_}
 use mathlib.Core.Option.{Option, none, some}
-use Prim.Native.Nat.{ℕ, zero, suc, _+_, _/_, _%_}
+use Prim.Native.Nat.{ℕ, zero, suc}
 use lib.Dec.{eqb, ltb}
 use lib.ListN.{length, getD}
 use Rattle.laws.specs.Paper.{Paper}
+use Rattle.texts.specs.Decimal.{decimal}
 use Rattle.field.specs.Field.{asked, unitAt}
 
--- ---- numbers and words
-
-abbrev pub digit : ℕ → ℕ
-digit n = 0x30 + n
-
--- the digits of a number, with a bound on how many there are. Bounds that are enough give the same digits, and a number has fewer digits than
--- the one below allows (`proofs/Decimal.antt`, `enough`)
-unfoldable pub digitsOf : ℕ → ℕ → List ℕ
-digitsOf zero n = []
-digitsOf (suc bound) n = cond (ltb n 10) (digit n ∷ []) (digitsOf bound (n / 10) ++ (digit (n % 10) ∷ []))
-
--- in decimal
-unfoldable pub decimal : ℕ → List ℕ
-unfolding digitsOf
-decimal n = digitsOf (suc n) n
+-- ---- words
 
 abbrev pub lineFeed : List ℕ
 lineFeed = 0x0A ∷ []

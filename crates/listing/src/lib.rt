@@ -3,8 +3,9 @@ ghost use mathlib.Core.List.{[], _∷_, _++_};
 ghost use mathlib.Core.Path.{_≡_};
 ghost use Prim.Native.Nat.{_≤_};
 ghost use lib.ListN.{length};
+ghost use Rattle.texts.specs.Decimal.{decimal};
 ghost use Rattle.field.specs.Field.{asked};
-ghost use Rattle.listing.specs.Lines.{decimal, refusedWord, unitText, endText, refusedText, tooLongText, lineAt};
+ghost use Rattle.listing.specs.Lines.{refusedWord, unitText, endText, refusedText, tooLongText, lineAt};
 ghost use Rattle.listing.specs.Held.{lineOf, room, held, listedPaper};
 ghost use Rattle.listing.specs.Private.{textOf, Ready, Written, stopped};
 use field::AnyUnit;
@@ -67,16 +68,13 @@ fn put_text(line: Line, text: &[u8]) -> Line
     longer
 }
 
-// The digits in front first, so that each is written where it stays.
 fn put_decimal(line: Line, number: usize) -> Line
     requires { ⌜ Ready line (length (decimal number)) ⌝ }
     ensures { λ r. ⌜ r ≡ lineOf (textOf line ++ decimal number) ⌝ }
 {
-    if number < 10 {
-        return put(line, b'0' + number as u8);
-    }
-    let front = put_decimal(line, number / 10);
-    put(front, b'0' + (number % 10) as u8)
+    let digits = texts::digits_of(number as u64);
+    let bytes = digits.bytes;
+    put_text(line, &bytes[..digits.used])
 }
 
 fn unit_line(place: usize, id: u8, length: u8) -> Line

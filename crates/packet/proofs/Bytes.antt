@@ -1,9 +1,10 @@
 -- The bytes of a packet, one by one.
 use mathlib.Core.Path.{_≡_, _∙_, ap, sym}
-use mathlib.Core.List.{List}
-use Prim.Native.Nat.{ℕ, _+_, _-_, _<_, _≤_}
-use lib.ListN.{length, getD, take, drop, length-map}
-use lib.Seq.{ext-getD}
+use mathlib.Core.List.{List, [], _∷_, _++_, map, map-append}
+use Prim.Native.Nat.{ℕ, suc, _+_, _-_, _<_, _≤_}
+use native.Mathlib.Omega.{arith}
+use lib.ListN.{length, getD, take, drop, length-drop, length-map}
+use lib.Seq.{ext-getD, getD-drop, take-suc}
 use Rattle.laws.proofs.Lists.{getD-map, length-part, getD-part}
 use Rattle.coding.specs.Bits.{turnedByte}
 use Rattle.packet.specs.Lines.{packetBytes}
@@ -32,3 +33,14 @@ module _ (packet : List ℕ) (first count : ℕ) (fits : (first - 1) + count ≤
   bytes-are xs l e =
       ext-getD 0 xs (packetBytes packet first count) (sym l ∙ sym length-bytes)
       (λ k h. let below : k < count = rw (← l) at h in e k below ∙ sym (byte-at k below))
+
+-- one byte more
+pub bytes-more : (packet : List ℕ) (first count : ℕ) → (first - 1) + count < length packet
+    → packetBytes packet first (suc count) ≡ packetBytes packet first count ++ (turnedByte (getD packet ((first - 1) + count) 0) ∷ [])
+unfolding packetBytes
+bytes-more packet first count h =
+    let rest = drop (first - 1) packet in
+    let inside : count < length rest = omega (arith, length-drop (first - 1) packet) in
+    ap (map turnedByte) (take-suc rest count 0 inside)
+    ∙ (map-append turnedByte (take count rest) (getD rest count 0 ∷ [])
+    ∙ ap (λ (byte : ℕ). map turnedByte (take count rest) ++ (turnedByte byte ∷ [])) (getD-drop (first - 1) packet count 0))

@@ -6,5 +6,6 @@ pub mod Good
 pub mod Packets
 pub mod Papers
 pub mod Sent
+pub mod Undamaged
 pub mod Unique
 pub mod Whole

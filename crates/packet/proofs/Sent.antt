@@ -38,7 +38,7 @@ AsSent sent found = (found ≡ some sent) ⊎ (found ≡ none)
 -- ---- the parts of the two definitions
 
 module _ (s : List ℕ) (sent : T (sentByRules s)) where
-  sent-parts : T (eqb (length s) lineLength)
+  pub sent-parts : T (eqb (length s) lineLength)
       × T (every isByte s)
       × T (eqb (getD s framingPlace 0) framingCode)
       × T (every exactByte (packetBytes (linePacket s) 1 2))
@@ -53,7 +53,7 @@ module _ (s : List ℕ) (sent : T (sentByRules s)) where
   sent-packet = length-part s packetPlace packetLength (omega (arith, eqb→eq (length s) lineLength (sent-parts .0)))
 
 module _ (d : ℕ) (s r : List ℕ) (damaged : T (damage d s r)) where
-  damage-parts : T (eqb (length r) lineLength) × T (every isByte r) × T (leb (distance (getD r framingPlace 0) (getD s framingPlace 0)) 1)
+  pub damage-parts : T (eqb (length r) lineLength) × T (every isByte r) × T (leb (distance (getD r framingPlace 0) (getD s framingPlace 0)) 1)
       × T (everyPair (near d) (packetBytes (linePacket s) 1 2) (packetBytes (linePacket r) 1 2)) × T (rowDamage d (sentRow s) (linePacket s) (linePacket r))
   unfolding damage
   damage-parts =
@@ -160,7 +160,7 @@ module _ (d : ℕ) (s r : List ℕ) (sent : T (sentByRules s)) (damaged : T (dam
 
 -- ---- headers
 
-header-parts : (row : ℕ) (p : List ℕ) → row ≡ 0 → T (rowByRules row p) → T (every exactByte (controlBytes p)) × T (every oddByte (headerTextBytes p))
+pub header-parts : (row : ℕ) (p : List ℕ) → row ≡ 0 → T (rowByRules row p) → T (every exactByte (controlBytes p)) × T (every oddByte (headerTextBytes p))
 unfolding rowByRules
 header-parts row p e t =
     let u = rw (eq-eqb row 0 e) at t in (
@@ -168,7 +168,7 @@ header-parts row p e t =
       both-right (every exactByte (controlBytes p)) (every oddByte (headerTextBytes p)) u,
     )
 
-header-damage : (d row : ℕ) (p q : List ℕ) → row ≡ 0 → T (rowDamage d row p q)
+pub header-damage : (d row : ℕ) (p q : List ℕ) → row ≡ 0 → T (rowDamage d row p q)
     → T (everyPair (near d) (controlBytes p) (controlBytes q)) × T (everyPair noneOrOdd (headerTextBytes p) (headerTextBytes q))
 unfolding rowDamage
 header-damage d row p q e t =

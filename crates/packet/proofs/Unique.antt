@@ -14,6 +14,8 @@ use Rattle.packet.proofs.framed_line as framed-line
 use Rattle.packet.proofs.framed_line.Reads as framed-line-reads
 use Rattle.packet.proofs.header_of as header-of
 use Rattle.packet.proofs.header_of.Reads as header-of-reads
+use Rattle.packet.proofs.is_mended as is-mended
+use Rattle.packet.proofs.is_mended.Reads as is-mended-reads
 use Rattle.packet.proofs.message_at as message-at
 use Rattle.packet.proofs.message_at.Reads as message-at-reads
 use Rattle.packet.proofs.packet_of as packet-of
@@ -33,6 +35,9 @@ use Rattle.packet.proofs.writing.row_packet.Reads as row-packet-reads
 
 pub message-at-unique : Unique message-at.ended message-at-reads.Post
 message-at-unique κs a r r′ ws ws′ p q = (message-is r r′ (p ∙ sym q), refl)
+
+pub is-mended-unique : Unique is-mended.ended is-mended-reads.Post
+is-mended-unique κs a r r′ ws ws′ p q = (p ∙ sym q, refl)
 
 pub framed-line-unique : Unique framed-line.ended framed-line-reads.Post
 framed-line-unique κs a r r′ ws ws′ p q = (framed-is r r′ (p ∙ sym q), refl)

@@ -8,7 +8,7 @@ ghost use lib.ListN.{length};
 ghost use Rattle.laws.specs.Digits.{binary};
 ghost use Rattle.coding.specs.Bits.{turnedByte};
 ghost use Rattle.laws.specs.Paper.{oneOrNone};
-ghost use Rattle.coding.specs.Hamming.{message, messagePaper};
+ghost use Rattle.coding.specs.Hamming.{corrected, message, messagePaper, testsOf};
 ghost use Rattle.coding.specs.Heard.{messageHeard};
 ghost use Rattle.coding.proofs.Hamming.{Small};
 ghost use Rattle.packet.specs.Addresses.{addressOf, addressPaper, magazineOf, shown};
@@ -130,7 +130,15 @@ pub fn packet_of(line: &[u8]) -> &[u8]
 pub fn message_at(byte: u8) -> Message
     ensures { λ r. ⌜ messagePaper r ≡ oneOrNone (message (turnedByte byte)) ⌝ }
 {
-    coding::message_of(coding::turned(byte))
+    coding::message_in(coding::message_of(coding::turned(byte)))
+}
+
+// Whether a Hamming byte, as it stands in a packet, has one wrong bit, which is mended: test D fails. D counts all bits, and so the byte needn't be turned.
+pub fn is_mended(byte: u8) -> bool
+    ensures { λ r. ⌜ r ≡ corrected (testsOf (turnedByte byte)) ⌝ }
+{
+    let tests = coding::tests_of(byte);
+    !tests.d
 }
 
 fn magazine_of(first: u8) -> u8

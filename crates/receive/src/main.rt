@@ -180,69 +180,6 @@ fn read_lines(state: State, chunk: &mut [u8]) -> Turn
     turn
 }
 
-fn complain_of(count: u64, one: &[u8], more: &[u8]) {
-    console::complain_number(count);
-    if count == 1 {
-        console::complain(one);
-    } else {
-        console::complain(more);
-    }
-}
-
-fn complain_refused(count: u64, by: &[u8]) {
-    if count > 0 {
-        console::complain(b", ");
-        console::complain_number(count);
-        console::complain(by);
-    }
-}
-
-// How many lines there were, and how many were refused. 12 and 18 never arise here.
-fn complain_counts(watch: Watch) {
-    complain_of(watch.lines, b" line", b" lines");
-    if watch.by10 == 0 {
-        if watch.by11 == 0 {
-            console::complain(b", none refused");
-        }
-    }
-    complain_refused(watch.by11, b" refused by 11");
-    complain_refused(watch.by10, b" refused by 10");
-    console::complain(b"\n");
-    if watch.by11 > watch.lines / 2 {
-        console::complain(
-            b"most lines are refused by 11: the bytes may be in another order, or the recording of another kind\n",
-        );
-    }
-}
-
-fn complain_page(argument: &[u8], what: &[u8]) {
-    console::complain(b"page ");
-    console::complain(argument);
-    console::complain(what);
-}
-
-// What is said at the end: `part` is how many bytes the last line has, where it is no whole one.
-fn complain_at_end(state: State, part: usize, argument: &[u8]) {
-    let watch = state.watch;
-    let receiver = state.receiver;
-    if watch.lines == 0 {
-        console::complain(b"no lines on standard input\n");
-        return;
-    }
-    if part > 0 {
-        console::complain(b"the last line has ");
-        complain_of(part as u64, b" byte and not ", b" bytes and not ");
-        console::complain_number(LINE_LENGTH as u64);
-        console::complain(b"\n");
-    }
-    complain_counts(watch);
-    if receiver.open {
-        complain_page(argument, b" was still open at the end\n");
-    } else if watch.closed == 0 {
-        complain_page(argument, b" never came\n");
-    }
-}
-
 fn receive(receiver: Receiver, argument: &[u8]) {
     let watch = Watch::new();
     let record = [0u8; RECORD_LENGTH];
@@ -261,7 +198,9 @@ fn receive(receiver: Receiver, argument: &[u8]) {
     }
     let last = feed(before, &chunk[..part]);
     let after = last.state;
-    complain_at_end(after, part, argument);
+    let watched = after.watch;
+    let ended = after.receiver;
+    ending::complain_at_end(watched, ended.open, part, argument);
 }
 
 fn complain_of_argument() {

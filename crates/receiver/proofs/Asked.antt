@@ -8,7 +8,6 @@ use borrow.Author.Tests.{eq-eqb, eqb-true, le-ltb, ltb-false}
 use lib.Dec.{eqb, ltb}
 use lib.ListN.{length}
 use Rattle.laws.specs.Paper.{accepted}
-use Rattle.packet.specs.Addresses.{addressOf}
 use Rattle.packet.specs.Lines.{framed, packetLength, packetOf}
 use Rattle.packet.specs.declared.Framed.{Framed}
 use Rattle.packet.specs.declared.Framed.the-variants as framed
@@ -19,9 +18,9 @@ use Rattle.page.specs.declared.CellsCheck.{CellsCheck}
 use Rattle.page.specs.declared.CellsCheck.the-variants.{Lawful, TooLarge, Unlawful}
 use Rattle.page.proofs.Papers.{check-is}
 use Rattle.receiver.specs.Effects.{Outcome, taken}
-use Rattle.receiver.specs.Entries.{Entered, Meets, answerPaper, asked, entered, lawful, lineBy, lineValues, packetTaken, refusal, stateLawful}
-use Rattle.receiver.specs.Kinds.{seen}
-use Rattle.receiver.specs.Private.{Does, answerOf, askedOf, bothLawful, isClosing, joined, lookedBy, lookedLine, lookedPacket}
+use Rattle.receiver.specs.Entries.{Entered, Meets, answerPaper, asked, entered, lawful, lineBy, lineValues, packetGives, packetTaken, refusal, stateLawful}
+use Rattle.receiver.specs.Mended.{broughtBy, noneMended, packetMended}
+use Rattle.receiver.specs.Private.{Does, answerOf, askedBy, askedOf, bothLawful, isClosing, joined, lineAsked, packetAsked}
 use Rattle.receiver.specs.Recordings.{goesOn}
 use Rattle.receiver.specs.Selections.{inRange}
 use Rattle.receiver.specs.declared.Answer.{Answer}
@@ -33,8 +32,6 @@ use Rattle.receiver.specs.declared.Stepped.{Stepped}
 use Rattle.receiver.specs.declared.asking.Asking.{Asking}
 use Rattle.receiver.specs.declared.asking.Asking.the-variants as asking
 use Rattle.receiver.specs.declared.effects.Done.{Done}
-use Rattle.receiver.specs.declared.looking.Looked.{Looked}
-use Rattle.receiver.specs.declared.looking.Looked.the-variants as looked
 use Rattle.receiver.proofs.Entering.{length-packet}
 
 -- ---- the cells that 18 asks
@@ -116,46 +113,54 @@ fine receiver lent e =
 
 -- ---- 10 and 11
 
--- what follows, by what a packet was seen to be
-abbrev pub Looking : Receiver → List ℕ → List ℕ → Entered → Looked → Type 0
-Looking receiver packet lent further (looked.Refused given) = Meets further (handedBack receiver given) lent
-Looking receiver packet lent further (looked.Shows shows) =
-    (length packet ≡ packetLength) × (shows ≡ seen (receiver .selection .magazine) (addressOf packet)) × (further ≡ entered (taken receiver packet lent))
+-- what follows, by what was asked of a packet
+abbrev pub Follows : Receiver → List ℕ → List ℕ → Entered → Asking → Type 0
+Follows receiver packet lent further (asking.Refused given) = Meets further (handedBack receiver given) lent
+Follows receiver packet lent further asking.Fine = (length packet ≡ packetLength) × (further ≡ packetGives receiver packet lent)
 
 module _ (receiver : Receiver) (lent : List ℕ) where
-  looking-by : (packet : List ℕ) (whole : Bool) → eqb (length packet) packetLength ≡ whole
-      → Looking receiver packet lent (cond whole (entered (taken receiver packet lent)) (refusal 10 receiver lent))
-      (cond whole (looked.Shows (seen (receiver .selection .magazine) (addressOf packet))) (looked.Refused answer.WrongLength))
+  packet-by : (packet : List ℕ) (whole : Bool) → eqb (length packet) packetLength ≡ whole
+      → Follows receiver packet lent (cond whole (packetGives receiver packet lent) (refusal 10 receiver lent))
+      (cond whole asking.Fine (asking.Refused answer.WrongLength))
   unfolding refusal answerPaper
-  looking-by packet true w = (eqb-true (length packet) packetLength w, refl, refl)
-  looking-by packet false w = record { answered = refl; kept = refl; left = refl }
+  packet-by packet true w = (eqb-true (length packet) packetLength w, refl)
+  packet-by packet false w = record { answered = refl; kept = refl; left = refl }
 
-  pub packet-looks : (packet : List ℕ) → Looking receiver packet lent (packetTaken receiver packet lent) (lookedPacket (receiver .selection .magazine) packet)
-  unfolding packetTaken lookedPacket
-  packet-looks packet = looking-by packet (eqb (length packet) packetLength) refl
+  pub packet-follows : (packet : List ℕ) → Follows receiver packet lent (packetTaken receiver packet lent) (packetAsked packet)
+  unfolding packetTaken packetAsked
+  packet-follows packet = packet-by packet (eqb (length packet) packetLength) refl
 
-  line-by : (line : List ℕ) (f : Framed) → framed line ≡ f
-      → Looking receiver (packetOf line) lent (lineBy f receiver line lent) (lookedBy f (receiver .selection .magazine) line)
-  unfolding lineBy lookedBy packetTaken refusal answerPaper
+  line-by : (line : List ℕ) (f : Framed) → framed line ≡ f → Follows receiver (packetOf line) lent (lineBy f receiver line lent) (askedBy f)
+  unfolding lineBy askedBy packetTaken refusal answerPaper
   line-by line framed.Packet e =
       let whole = length-packet line e in
-      (whole, refl, ap (λ (b : Bool). cond b (entered (taken receiver (packetOf line) lent)) (refusal 10 receiver lent)) (eq-eqb (length (packetOf line)) packetLength whole))
+      (whole, ap (λ (b : Bool). cond b (packetGives receiver (packetOf line) lent) (refusal 10 receiver lent)) (eq-eqb (length (packetOf line)) packetLength whole))
   line-by line framed.WrongLength e = record { answered = refl; kept = refl; left = refl }
   line-by line framed.WrongFraming e = record { answered = refl; kept = refl; left = refl }
 
-  pub line-looks : (line : List ℕ)
-      → Looking receiver (packetOf line) lent (lineBy (framed line) receiver line lent) (lookedLine (receiver .selection .magazine) line)
-  unfolding lookedLine
-  line-looks line = line-by line (framed line) refl
+  pub line-follows : (line : List ℕ) → Follows receiver (packetOf line) lent (lineBy (framed line) receiver line lent) (lineAsked line)
+  unfolding lineAsked
+  line-follows line = line-by line (framed line) refl
+
+packet-fine : (f : Framed) → askedBy f ≡ asking.Fine → f ≡ framed.Packet
+unfolding askedBy
+packet-fine framed.Packet e = refl
+packet-fine framed.WrongLength e = absurd (let z : _≡_ {A = ℕ} 0 1 = cc in omega arith)
+packet-fine framed.WrongFraming e = absurd (let z : _≡_ {A = ℕ} 0 1 = cc in omega arith)
+
+pub line-fine : (line : List ℕ) → lineAsked line ≡ asking.Fine → framed line ≡ framed.Packet
+unfolding lineAsked
+line-fine line e = packet-fine (framed line) e
 
 -- ---- what was done
 
 pub done-meets : {outcome : Outcome} (done : Done) {characters marks lent : List ℕ} → Does outcome done characters marks lent
-    → Meets (entered outcome) (record { receiver = joined (done .standing) characters marks; answer = answerOf done }) lent
+    → {given mended : ℕ} → given ≡ mended
+    → Meets (entered outcome mended) (record { receiver = joined (done .standing) characters marks; answer = answerOf done given }) lent
 unfolding entered answerPaper
-done-meets done d =
+done-meets done d same =
     record {
-      answered = λ i. accepted (lineValues (d .kind i) (d .count i) (d .word i));
+      answered = λ i. accepted (lineValues (d .kind i) (d .count i) (d .word i) (same i));
       kept = d .kept;
       left = d .left;
     }
@@ -181,43 +186,50 @@ module _ (receiver current : Receiver) (same : current ≡ receiver) (lent : Lis
       entry-goes e (handedBack receiver given) lent (subst (λ (r : Receiver). Meets (further current) (handedBack r given) lent) same m)
 
   -- and what the line did
-  pub entry-done : askedOf current (length lent) ≡ asking.Fine → (packet : List ℕ) → further current ≡ entered (taken current packet lent)
+  pub entry-done : askedOf current (length lent) ≡ asking.Fine → (packet : List ℕ) → further current ≡ packetGives current packet lent
       → (part : List ℕ) → part ≡ packet → (done : Done) (characters marks left : List ℕ) → Does (taken current part lent) done characters marks left
-      → (after : Receiver) → after ≡ joined (done .standing) characters marks → (given : Answer) → given ≡ answerOf done
+      → {mended : ℕ} → mended ≡ packetMended current part
+      → (after : Receiver) → after ≡ joined (done .standing) characters marks → (given : Answer) → given ≡ answerOf done mended
       → Meets (asked receiver lent (further receiver)) (record { receiver = after; answer = given }) left
-  entry-done e packet f part p done characters marks left d after a given g =
+  entry-done e packet f part p done characters marks left d m after a given g =
       entry-goes e (record { receiver = after; answer = given }) left
-      (meets (record { receiver = after; answer = given }) left (ap (λ (x : List ℕ). entered (taken current x lent)) p ∙ sym f)
-      (subst (λ (s : Stepped). Meets (entered (taken current part lent)) s left) (λ i. record { receiver = sym a i; answer = sym g i }) (done-meets done d)))
+      (meets (record { receiver = after; answer = given }) left (ap (λ (x : List ℕ). packetGives current x lent) p ∙ sym f)
+      (subst (λ (s : Stepped). Meets (packetGives current part lent) s left) (λ i. record { receiver = sym a i; answer = sym g i }) (done-meets done d m)))
 
 -- ---- where playing stops
 
-pub goes-on-is : (kind count : ℕ) (word : Closing) → goesOn (answerPaper (answer.Taken kind count word)) ≡ not (isClosing word)
+pub goes-on-is : (kind count : ℕ) (word : Closing) (mended : ℕ) → goesOn (answerPaper (answer.Taken kind count word mended)) ≡ not (isClosing word)
 unfolding goesOn answerPaper isClosing
-goes-on-is kind count closing.None = refl
-goes-on-is kind count closing.Clean = refl
-goes-on-is kind count closing.Doubt = refl
+goes-on-is kind count closing.None mended = refl
+goes-on-is kind count closing.Clean mended = refl
+goes-on-is kind count closing.Doubt mended = refl
 
-stops-by : (ours : ℕ) (line : List ℕ) (f : Framed) (given : Answer) → lookedBy f ours line ≡ looked.Refused given → goesOn (answerPaper given) ≡ false
-unfolding lookedBy goesOn answerPaper
-stops-by ours line framed.Packet given e = absurd (let z : _≡_ {A = ℕ} 0 1 = cc in omega arith)
-stops-by ours line framed.WrongLength given e = ap (λ (a : Answer). goesOn (answerPaper a)) (sym {a = answer.WrongLength} {b = given} (cc))
-stops-by ours line framed.WrongFraming given e = ap (λ (a : Answer). goesOn (answerPaper a)) (sym {a = answer.WrongFraming} {b = given} (cc))
+-- a refused line stops, and has nothing mended
+abbrev pub Refuses : Answer → Type 0
+Refuses given = (goesOn (answerPaper given) ≡ false) × (broughtBy (answerPaper given) ≡ noneMended)
 
--- a line that is refused
-pub refused-stops : (ours : ℕ) (line : List ℕ) (given : Answer) → lookedLine ours line ≡ looked.Refused given → goesOn (answerPaper given) ≡ false
-unfolding lookedLine
-refused-stops ours line given e = stops-by ours line (framed line) given e
+refuses-as : (known given : Answer) → known ≡ given → Refuses known → Refuses given
+refuses-as known given e r = subst Refuses e r
 
-stops-asked : (isLawful short : Bool) (given : Answer)
+refuses-by : (f : Framed) (given : Answer) → askedBy f ≡ asking.Refused given → Refuses given
+unfolding askedBy goesOn answerPaper broughtBy
+refuses-by framed.Packet given e = absurd (let z : _≡_ {A = ℕ} 0 1 = cc in omega arith)
+refuses-by framed.WrongLength given e = refuses-as answer.WrongLength given (cc) (refl, refl)
+refuses-by framed.WrongFraming given e = refuses-as answer.WrongFraming given (cc) (refl, refl)
+
+pub line-refuses : (line : List ℕ) (given : Answer) → lineAsked line ≡ asking.Refused given → Refuses given
+unfolding lineAsked
+line-refuses line given e = refuses-by (framed line) given e
+
+refuses-tests : (isLawful short : Bool) (given : Answer)
     → cond isLawful (cond short (asking.Refused answer.ShortRecord) asking.Fine) (asking.Refused answer.Unlawful) ≡ asking.Refused given
-    → goesOn (answerPaper given) ≡ false
-unfolding goesOn answerPaper
-stops-asked true true given e = ap (λ (a : Answer). goesOn (answerPaper a)) (sym {a = answer.ShortRecord} {b = given} (cc))
-stops-asked true false given e = absurd (let z : _≡_ {A = ℕ} 0 1 = cc in omega arith)
-stops-asked false short given e = ap (λ (a : Answer). goesOn (answerPaper a)) (sym {a = answer.Unlawful} {b = given} (cc))
+    → Refuses given
+unfolding goesOn answerPaper broughtBy
+refuses-tests true true given e = refuses-as answer.ShortRecord given (cc) (refl, refl)
+refuses-tests true false given e = absurd (let z : _≡_ {A = ℕ} 0 1 = cc in omega arith)
+refuses-tests false short given e = refuses-as answer.Unlawful given (cc) (refl, refl)
 
 -- and one that 18 or 12 refuses
-pub asked-stops : (receiver : Receiver) (room : ℕ) (given : Answer) → askedOf receiver room ≡ asking.Refused given → goesOn (answerPaper given) ≡ false
+pub asked-refuses : (receiver : Receiver) (room : ℕ) (given : Answer) → askedOf receiver room ≡ asking.Refused given → Refuses given
 unfolding askedOf
-asked-stops receiver room given e = stops-asked (lawful receiver) (ltb room recordLength) given e
+asked-refuses receiver room given e = refuses-tests (lawful receiver) (ltb room recordLength) given e

@@ -16,7 +16,7 @@ use Rattle.packet.specs.declared.Framed.{Framed}
 use Rattle.packet.specs.declared.Framed.the-variants as framed
 use Rattle.packet.proofs.Whole.{whole-line}
 use Rattle.page.specs.Records.{recordLength}
-use Rattle.receiver.specs.Entries.{Entered, asked, entered, lawful, lineBy, lineEntered, packetEntered, packetTaken, refusal}
+use Rattle.receiver.specs.Entries.{Entered, asked, entered, lawful, lineBy, lineEntered, packetEntered, packetGives, packetTaken, refusal}
 use Rattle.receiver.specs.Effects.{taken}
 use Rattle.receiver.specs.declared.Receiver.{Receiver}
 use Rattle.receiver.proofs.Lawful.{taken-lawful}
@@ -46,12 +46,12 @@ module _ (receiver : Receiver) (lent : List ℕ) (P : Receiver → List ℕ → 
       (λ long. keeps t (ltb-false (length lent) recordLength (failed (ltb (length lent) recordLength) long))))
       (λ t. refusal-kept 18)
 
-  packet-taken-kept : (packet : List ℕ) → Kept (entered (taken receiver packet lent)) → Kept (packetTaken receiver packet lent)
+  packet-taken-kept : (packet : List ℕ) → Kept (packetGives receiver packet lent) → Kept (packetTaken receiver packet lent)
   unfolding packetTaken
   packet-taken-kept packet after =
-      chosen Kept (eqb (length packet) packetLength) (entered (taken receiver packet lent)) (refusal 10 receiver lent) (λ t. after) (λ t. refusal-kept 10)
+      chosen Kept (eqb (length packet) packetLength) (packetGives receiver packet lent) (refusal 10 receiver lent) (λ t. after) (λ t. refusal-kept 10)
 
-  line-by-kept : (f : Framed) (line : List ℕ) → Kept (entered (taken receiver (packetOf line) lent)) → Kept (lineBy f receiver line lent)
+  line-by-kept : (f : Framed) (line : List ℕ) → Kept (packetGives receiver (packetOf line) lent) → Kept (lineBy f receiver line lent)
   unfolding lineBy
   line-by-kept framed.Packet line after = packet-taken-kept (packetOf line) after
   line-by-kept framed.WrongLength line after = refusal-kept 10
@@ -92,11 +92,11 @@ module _ (receiver : Receiver) (is : T (lawful receiver)) (lent : List ℕ) wher
     asked-is : (further : Entered) → asked receiver lent further ≡ further
     asked-is further = never-18 further ∙ rw (le-ltb (length lent) recordLength long)
 
-    pub packet-is-taken : (packet : List ℕ) → length packet ≡ packetLength → packetEntered receiver packet lent ≡ entered (taken receiver packet lent)
+    pub packet-is-taken : (packet : List ℕ) → length packet ≡ packetLength → packetEntered receiver packet lent ≡ packetGives receiver packet lent
     unfolding packetEntered packetTaken
     packet-is-taken packet e = asked-is (packetTaken receiver packet lent) ∙ rw (eq-eqb (length packet) packetLength e)
 
-    pub line-is-taken : (line : List ℕ) → framed line ≡ framed.Packet → lineEntered receiver line lent ≡ entered (taken receiver (packetOf line) lent)
+    pub line-is-taken : (line : List ℕ) → framed line ≡ framed.Packet → lineEntered receiver line lent ≡ packetGives receiver (packetOf line) lent
     unfolding lineEntered lineBy packetTaken
     line-is-taken line e =
         asked-is (lineBy (framed line) receiver line lent)

@@ -11,8 +11,9 @@ use Rattle.packet.specs.declared.Framed.{Framed}
 use Rattle.packet.specs.declared.Framed.the-variants as framed
 use Rattle.page.specs.Records.{recordLength}
 use Rattle.receiver.specs.Effects.{Outcome, doubted, effected, headerTaken, justClosed, taken, textTaken, unclosed, unsureTaken}
-use Rattle.receiver.specs.Entries.{Entered, asked, entered, lawful, lineBy, lineEntered, packetTaken, refusal}
+use Rattle.receiver.specs.Entries.{Entered, asked, entered, lawful, lineBy, lineEntered, packetGives, packetTaken, refusal}
 use Rattle.receiver.specs.Kinds.{effectDue}
+use Rattle.receiver.specs.Mended.{packetMended}
 use Rattle.receiver.specs.declared.Receiver.{Receiver}
 use Rattle.receiver.specs.declared.kinds.Effect.{Effect}
 use Rattle.receiver.specs.declared.kinds.Effect.the-variants.{Nothing, Store, Open, Close, Doubt}
@@ -24,7 +25,7 @@ abbrev pub SameButLent : Entered → Entered → Type 0
 SameButLent one two = (one .answer ≡ two .answer) × (one .receiver ≡ two .receiver)
 
 abbrev SameEntered : Outcome → Outcome → Type 0
-SameEntered one two = SameButLent (entered one) (entered two)
+SameEntered one two = (mended : ℕ) → SameButLent (entered one mended) (entered two mended)
 
 module _ (receiver : Receiver) (lent other : List ℕ) where
   unsure-free : (could isOpen : Bool)
@@ -32,27 +33,27 @@ module _ (receiver : Receiver) (lent other : List ℕ) where
       (cond isOpen (cond could (justClosed (doubted receiver) 4 lent) (unclosed (doubted receiver) 4 lent)) (unclosed receiver 4 lent))
       (cond isOpen (cond could (justClosed (doubted receiver) 4 other) (unclosed (doubted receiver) 4 other)) (unclosed receiver 4 other))
   unfolding entered justClosed unclosed
-  unsure-free true true = (refl, refl)
-  unsure-free false true = (refl, refl)
-  unsure-free could false = (refl, refl)
+  unsure-free true true mended = (refl, refl)
+  unsure-free false true mended = (refl, refl)
+  unsure-free could false mended = (refl, refl)
 
   effected-free : (e : Effect) (bytes : List ℕ) → SameEntered (effected receiver e bytes lent) (effected receiver e bytes other)
   unfolding entered effected unclosed textTaken headerTaken justClosed unsureTaken
-  effected-free Nothing bytes = (refl, refl)
-  effected-free (Store row) bytes = (refl, refl)
-  effected-free (Open header) bytes = (refl, refl)
-  effected-free (Close kind) bytes = (refl, refl)
-  effected-free (Doubt could) bytes = unsure-free could (receiver .«open»)
+  effected-free Nothing bytes mended = (refl, refl)
+  effected-free (Store row) bytes mended = (refl, refl)
+  effected-free (Open header) bytes mended = (refl, refl)
+  effected-free (Close kind) bytes mended = (refl, refl)
+  effected-free (Doubt could) bytes mended = unsure-free could (receiver .«open») mended
 
   taken-free : (packet : List ℕ) → SameEntered (taken receiver packet lent) (taken receiver packet other)
   unfolding taken
   taken-free packet = effected-free (effectDue receiver packet) (textOf packet .bytes)
 
   packet-free : (packet : List ℕ) (whole : Bool)
-      → SameButLent (cond whole (entered (taken receiver packet lent)) (refusal 10 receiver lent))
-      (cond whole (entered (taken receiver packet other)) (refusal 10 receiver other))
+      → SameButLent (cond whole (packetGives receiver packet lent) (refusal 10 receiver lent))
+      (cond whole (packetGives receiver packet other) (refusal 10 receiver other))
   unfolding refusal
-  packet-free packet true = taken-free packet
+  packet-free packet true = taken-free packet (packetMended receiver packet)
   packet-free packet false = (refl, refl)
 
   framed-free : (line : List ℕ) (f : Framed) → SameButLent (lineBy f receiver line lent) (lineBy f receiver line other)

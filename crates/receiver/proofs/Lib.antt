@@ -13,6 +13,7 @@ pub mod Laying
 pub mod Lawful
 pub mod Lent
 pub mod Marks
+pub mod MendedBytes
 pub mod Outcomes
 pub mod Playing
 pub mod Resting

@@ -20,6 +20,8 @@ use Rattle.receiver.specs.declared.Selected.the-variants as selected
 use Rattle.receiver.specs.declared.Stepped.{Stepped}
 use Rattle.receiver.proofs.Receiver.new as new
 use Rattle.receiver.proofs.Receiver.new.Reads as new-reads
+use Rattle.receiver.proofs.mending.mended_of as mended-of
+use Rattle.receiver.proofs.mending.mended_of.Reads as mended-of-reads
 use Rattle.receiver.proofs.take_line as take-line
 use Rattle.receiver.proofs.take_line.Reads as take-line-reads
 use Rattle.receiver.specs.Recordings.{playedPaper}
@@ -38,14 +40,14 @@ toClosing n = cond (eqb n 0) closing.None (cond (eqb n 1) closing.Clean closing.
 abbrev toAnswer : Option ℕ → List ℕ → Answer
 toAnswer none values = answer.Unlawful
 toAnswer (some n) values =
-    cond (eqb n 0) (answer.Taken (getD values 0 0) (getD values 1 0) (toClosing (getD values 2 0)))
+    cond (eqb n 0) (answer.Taken (getD values 0 0) (getD values 1 0) (toClosing (getD values 2 0)) (getD values 3 0))
     (cond (eqb n 18) answer.Unlawful (cond (eqb n 12) answer.ShortRecord (cond (eqb n 10) answer.WrongLength answer.WrongFraming)))
 
 answer-back : (a : Answer) → toAnswer (answerPaper a .number) (answerPaper a .values) ≡ a
 unfolding answerPaper
-answer-back (answer.Taken kind count closing.None) = refl
-answer-back (answer.Taken kind count closing.Clean) = refl
-answer-back (answer.Taken kind count closing.Doubt) = refl
+answer-back (answer.Taken kind count closing.None mended) = refl
+answer-back (answer.Taken kind count closing.Clean mended) = refl
+answer-back (answer.Taken kind count closing.Doubt mended) = refl
 answer-back answer.Unlawful = refl
 answer-back answer.ShortRecord = refl
 answer-back answer.WrongLength = refl
@@ -98,6 +100,9 @@ new-unique κs a r r′ ws ws′ p q = (
   refl,
 )
 
+pub mended-of-unique : Unique mended-of.ended mended-of-reads.Post
+mended-of-unique κs a r r′ ws ws′ p q = (p ∙ sym q, refl)
+
 pub take-packet-unique : Unique take-packet.ended take-packet-reads.Post
 take-packet-unique κs a r r′ ws ws′ p q =
     (stepped-is _ r r′ _ _ p q, λ i. (tt, (tt, ((p .left ∙ sym (q .left)) i, tt))))
@@ -112,6 +117,7 @@ take-recording-unique κs a r r′ ws ws′ p q = (
       record {
         receiver = (p .kept ∙ sym (q .kept)) i;
         used = (p .counted ∙ sym (q .counted)) i;
+        mended = (p .mended ∙ sym (q .mended)) i;
         answer = played-is (r .answer) (r′ .answer) (p .answered ∙ sym (q .answered)) i;
       },
   λ i. (tt, (tt, ((p .left ∙ sym (q .left)) i, tt))),

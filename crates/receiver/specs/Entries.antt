@@ -17,6 +17,7 @@ use Rattle.page.specs.Lawful.{headerFits, cellsFit, cellsLawful}
 use Rattle.page.specs.Records.{recordLength, zeroCells}
 use Rattle.receiver.specs.Cells.{blank}
 use Rattle.receiver.specs.Effects.{Outcome, taken}
+use Rattle.receiver.specs.Mended.{packetMended}
 use Rattle.receiver.specs.Selections.{inRange, matches}
 use Rattle.receiver.specs.declared.Answer.{Answer}
 use Rattle.receiver.specs.declared.Answer.the-variants as answer
@@ -35,19 +36,19 @@ closingNumber closing.None = 0
 closingNumber closing.Clean = 1
 closingNumber closing.Doubt = 2
 
--- the kind, the count of bytes written and the closing word
-unfoldable pub lineValues : ℕ → ℕ → Closing → List ℕ
+-- the kind, the count of bytes written and the closing word; and, by document 02, request 3, how many of the Hamming bytes examined were mended
+unfoldable pub lineValues : ℕ → ℕ → Closing → ℕ → List ℕ
 unfolding closingNumber
-lineValues kind count word = kind ∷ count ∷ closingNumber word ∷ []
+lineValues kind count word mended = kind ∷ count ∷ closingNumber word ∷ mended ∷ []
 
--- a refused line answers kind 0, count 0 and closing none
+-- a refused line answers kind 0, count 0 and closing none, and none mended
 unfoldable pub refusedLine : ℕ → Paper
 unfolding refusedBy lineValues
-refusedLine number = refusedBy number (lineValues 0 0 closing.None)
+refusedLine number = refusedBy number (lineValues 0 0 closing.None 0)
 
 unfoldable pub answerPaper : Answer → Paper
 unfolding accepted lineValues refusedLine
-answerPaper (answer.Taken kind count word) = accepted (lineValues kind count word)
+answerPaper (answer.Taken kind count word mended) = accepted (lineValues kind count word mended)
 answerPaper answer.Unlawful = refusedLine 18
 answerPaper answer.ShortRecord = refusedLine 12
 answerPaper answer.WrongLength = refusedLine 10
@@ -88,20 +89,24 @@ unfoldable pub refusal : ℕ → Receiver → List ℕ → Entered
 unfolding refusedLine
 refusal number receiver lent = record { answer = refusedLine number; receiver = receiver; lent = lent }
 
-unfoldable pub entered : Outcome → Entered
+unfoldable pub entered : Outcome → ℕ → Entered
 unfolding accepted lineValues
-entered outcome =
+entered outcome mended =
     record {
-      answer = accepted (lineValues (outcome .kind) (outcome .count) (outcome .closing));
+      answer = accepted (lineValues (outcome .kind) (outcome .count) (outcome .closing) mended);
       receiver = outcome .receiver;
       lent = outcome .lent;
     }
 
+-- a packet of 42 bytes: what it did, and how many of its bytes were mended
+abbrev pub packetGives : Receiver → List ℕ → List ℕ → Entered
+packetGives receiver packet lent = entered (taken receiver packet lent) (packetMended receiver packet)
+
 -- 10: a packet that is not 42 bytes
 unfoldable pub packetTaken : Receiver → List ℕ → List ℕ → Entered
-unfolding entered taken refusal
+unfolding entered taken packetMended refusal
 packetTaken receiver packet lent =
-    cond (eqb (length packet) packetLength) (entered (taken receiver packet lent)) (refusal 10 receiver lent)
+    cond (eqb (length packet) packetLength) (packetGives receiver packet lent) (refusal 10 receiver lent)
 
 -- 10 and 11, by what the line is
 unfoldable pub lineBy : Framed → Receiver → List ℕ → List ℕ → Entered

@@ -7,8 +7,7 @@ use Prim.Native.Nat.{ℕ, _+_, _*_, _≤_, _<_}
 use lib.Dec.{eqb, leb, ltb}
 use lib.ListN.{getD, length}
 use Rattle.grid.specs.Grid.{cellCount, lastRow}
-use Rattle.packet.specs.Addresses.{addressOf}
-use Rattle.packet.specs.Lines.{framed, packetLength, packetOf}
+use Rattle.packet.specs.Lines.{framed, packetLength}
 use Rattle.packet.specs.declared.Framed.{Framed}
 use Rattle.packet.specs.declared.Framed.the-variants as framed
 use Rattle.page.specs.Lawful.{cellsFit, cellsLawful, highestMark}
@@ -16,12 +15,13 @@ use Rattle.page.specs.Records.{recordLength}
 use Rattle.page.specs.declared.Cells.{Cells}
 use Rattle.receiver.specs.Effects.{Outcome}
 use Rattle.receiver.specs.Entries.{lawful}
-use Rattle.receiver.specs.Kinds.{firstHarmless, seen, seenOurs}
+use Rattle.receiver.specs.Kinds.{firstHarmless, seenOurs}
 use Rattle.receiver.specs.Recordings.{Playing, playedPaper}
 use Rattle.receiver.specs.declared.Answer.{Answer}
 use Rattle.receiver.specs.declared.Answer.the-variants as answer
 use Rattle.receiver.specs.declared.Closing.{Closing}
 use Rattle.receiver.specs.declared.Closing.the-variants as closing
+use Rattle.receiver.specs.declared.Mended.{Mended}
 use Rattle.receiver.specs.declared.Played.{Played}
 use Rattle.receiver.specs.declared.Receiver.{Receiver}
 use Rattle.receiver.specs.declared.asking.Asking.{Asking}
@@ -32,8 +32,6 @@ use Rattle.receiver.specs.declared.kinds.Effect.{Effect}
 use Rattle.receiver.specs.declared.kinds.Effect.the-variants.{Nothing, Store, Open, Close, Doubt}
 use Rattle.receiver.specs.declared.kinds.Seen.{Seen}
 use Rattle.receiver.specs.declared.kinds.Seen.the-variants.{Another, Unsure}
-use Rattle.receiver.specs.declared.looking.Looked.{Looked}
-use Rattle.receiver.specs.declared.looking.Looked.the-variants as looked
 use Rattle.receiver.specs.declared.recording.Ended.{Ended}
 
 unfoldable pub one : Option ℕ → ℕ
@@ -67,21 +65,21 @@ unfoldable pub seenWithout : Option ℕ → Seen
 seenWithout none = Unsure true
 seenWithout (some second) = cond (leb firstHarmless second) Another (Unsure (eqb second 0))
 
--- 10, or what the address shows
-unfoldable pub lookedPacket : ℕ → List ℕ → Looked
-unfolding seen addressOf
-lookedPacket ours packet =
-    cond (eqb (length packet) packetLength) (looked.Shows (seen ours (addressOf packet))) (looked.Refused answer.WrongLength)
+-- ---- 10 and 11
 
-unfoldable pub lookedBy : Framed → ℕ → List ℕ → Looked
-unfolding seen addressOf packetOf
-lookedBy framed.Packet ours line = looked.Shows (seen ours (addressOf (packetOf line)))
-lookedBy framed.WrongLength ours line = looked.Refused answer.WrongLength
-lookedBy framed.WrongFraming ours line = looked.Refused answer.WrongFraming
+-- of a packet
+unfoldable pub packetAsked : List ℕ → Asking
+packetAsked packet = cond (eqb (length packet) packetLength) asked.Fine (asked.Refused answer.WrongLength)
 
-unfoldable pub lookedLine : ℕ → List ℕ → Looked
-unfolding lookedBy framed
-lookedLine ours line = lookedBy (framed line) ours line
+-- of a line, by what it is
+unfoldable pub askedBy : Framed → Asking
+askedBy framed.Packet = asked.Fine
+askedBy framed.WrongLength = asked.Refused answer.WrongLength
+askedBy framed.WrongFraming = asked.Refused answer.WrongFraming
+
+unfoldable pub lineAsked : List ℕ → Asking
+unfolding askedBy framed
+lineAsked line = askedBy (framed line)
 
 -- a page was closed
 unfoldable pub isClosing : Closing → Bool
@@ -137,15 +135,26 @@ pub record Does (outcome : Outcome) (done : Done) (characters marks lent : List 
   pub left : lent ≡ outcome .lent
 
 -- a line's answer
-abbrev pub answerOf : Done → Answer
-answerOf done = answer.Taken (done .kind) (done .count) (done .closing)
+abbrev pub answerOf : Done → ℕ → Answer
+answerOf done mended = answer.Taken (done .kind) (done .count) (done .closing) mended
 
-abbrev pub endedAs : Standing → ℕ → Played → Ended
-endedAs standing used answer = record { standing = standing; used = used; answer = answer }
+-- the largest count
+abbrev pub mostCounted : ℕ
+mostCounted = 18446744073709551615
+
+-- a line's mended bytes can be added
+pub record Holds (so : Mended) (mended : ℕ) : Type 0 where
+  pub bytes : so .bytes + mended ≤ mostCounted
+  pub lines : so .lines + 1 ≤ mostCounted
+  pub own : so .own + mended ≤ mostCounted
+
+abbrev pub endedAs : Standing → ℕ → Mended → Played → Ended
+endedAs standing used mended answer = record { standing = standing; used = used; mended = mended; answer = answer }
 
 -- what the code of playing gives, where the cells and the lent record are then these
 pub record EndsAs (promised : Playing) (ended : Ended) (characters marks lent : List ℕ) : Type 0 where
   pub answered : playedPaper (ended .answer) ≡ promised .stopped
   pub counted : ended .used ≡ promised .used
+  pub mended : ended .mended ≡ promised .mended
   pub kept : joined (ended .standing) characters marks ≡ promised .receiver
   pub left : lent ≡ promised .lent

@@ -10,6 +10,8 @@ use lib.ListN.{length, getD, take, drop}
 use Rattle.laws.specs.Paper.{Paper}
 use Rattle.packet.specs.Lines.{lineLength}
 use Rattle.receiver.specs.Entries.{Entered, answerPaper, lineEntered}
+use Rattle.receiver.specs.Mended.{broughtBy, noneMended, summed}
+use Rattle.receiver.specs.declared.Mended.{Mended}
 use Rattle.receiver.specs.declared.Played.{Played}
 use Rattle.receiver.specs.declared.Played.the-variants.{End, Stopped}
 use Rattle.receiver.specs.declared.Receiver.{Receiver}
@@ -25,33 +27,37 @@ unfoldable pub goesOn : Paper → Bool
 unfolding isAccepted
 goesOn answer = isAccepted (answer .number) && eqb (getD (answer .values) 2 0) 0
 
--- what playing gives: the answer that it stopped at, and none at the end; the lines used; the receiver, and the lent record's later content
+-- what playing gives: the answer that it stopped at, and none at the end; the lines used, and how many bytes were mended in them, the last included; the receiver, and
+-- the lent record's later content
 pub record Playing : Type 0 where
   pub stopped : Option Paper
   pub used : ℕ
+  pub mended : Mended
   pub receiver : Receiver
   pub lent : List ℕ
 
 -- what a line gives, where playing stops at it
-unfoldable pub stoppedAt : Entered → ℕ → Playing
-stoppedAt entry used = record { stopped = some (entry .answer); used = used; receiver = entry .receiver; lent = entry .lent }
+unfoldable pub stoppedAt : Entered → ℕ → Mended → Playing
+stoppedAt entry used mended =
+    record { stopped = some (entry .answer); used = used; mended = mended; receiver = entry .receiver; lent = entry .lent }
 
-unfoldable pub ended : Receiver → List ℕ → ℕ → Playing
-ended receiver lent used = record { stopped = none; used = used; receiver = receiver; lent = lent }
+unfoldable pub ended : Receiver → List ℕ → ℕ → Mended → Playing
+ended receiver lent used mended = record { stopped = none; used = used; mended = mended; receiver = receiver; lent = lent }
 
--- on from a receiver, a record and a count of lines used; at most so many lines more
-unfoldable pub playing : ℕ → Receiver → List ℕ → List ℕ → ℕ → Playing
-unfolding ended stoppedAt goesOn lineEntered
-playing zero receiver recording lent used = ended receiver lent used
-playing (suc bound) receiver recording lent used =
+-- on from a receiver, a record and the counts of lines used and of bytes mended; at most so many lines more
+unfoldable pub playing : ℕ → Receiver → List ℕ → List ℕ → ℕ → Mended → Playing
+unfolding ended stoppedAt goesOn lineEntered summed broughtBy
+playing zero receiver recording lent used mended = ended receiver lent used mended
+playing (suc bound) receiver recording lent used mended =
     let entry : Entered = lineEntered receiver (take lineLength recording) lent in
-    cond (eqb (length recording) 0) (ended receiver lent used)
-    (cond (goesOn (entry .answer)) (playing bound (entry .receiver) (drop lineLength recording) (entry .lent) (used + 1)) (stoppedAt entry (used + 1)))
+    let more : Mended = summed mended (broughtBy (entry .answer)) in
+    cond (eqb (length recording) 0) (ended receiver lent used mended)
+    (cond (goesOn (entry .answer)) (playing bound (entry .receiver) (drop lineLength recording) (entry .lent) (used + 1) more) (stoppedAt entry (used + 1) more))
 
 -- a recording of so many bytes has no more lines than that
 unfoldable pub played : Receiver → List ℕ → List ℕ → Playing
 unfolding playing
-played receiver recording lent = playing (length recording) receiver recording lent 0
+played receiver recording lent = playing (length recording) receiver recording lent 0 noneMended
 
 -- the answer that playing stopped at
 unfoldable pub playedPaper : Played → Option Paper
@@ -63,5 +69,6 @@ playedPaper (Stopped answer) = some (answerPaper answer)
 pub record PlaysAs (promised : Playing) (recorded : Recorded) (lent : List ℕ) : Type 0 where
   pub answered : playedPaper (recorded .answer) ≡ promised .stopped
   pub counted : recorded .used ≡ promised .used
+  pub mended : recorded .mended ≡ promised .mended
   pub kept : recorded .receiver ≡ promised .receiver
   pub left : lent ≡ promised .lent

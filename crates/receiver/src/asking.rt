@@ -1,8 +1,8 @@
-// What 18 and 12 ask of a receiver that is handed in, and of the lent record's length.
+// What 18 and 12 ask of a receiver that is handed in, and of the lent record's length; then what 10 and 11 ask of a packet or a line.
 ghost use mathlib.Core.Path.{_≡_};
 ghost use Rattle.receiver.specs.Entries.{isZero, lawful, stateOf};
 ghost use Rattle.page.specs.Records.{cellsOf};
-ghost use Rattle.receiver.specs.Private.{askedOf, bothLawful, joined};
+ghost use Rattle.receiver.specs.Private.{askedOf, bothLawful, joined, lineAsked, packetAsked};
 use crate::Answer;
 use crate::Receiver;
 use crate::Selection;
@@ -10,10 +10,11 @@ use crate::effects::Standing;
 use crate::selecting::in_range;
 use crate::selecting::is_selected;
 use grid::CELLS;
+use packet::Framed;
 use packet::Header;
 use page::CellsCheck;
 
-// What 18 and 12 say, before a line is looked at.
+// What these say, before a line is looked at.
 pub(crate) enum Asking {
     Fine,
     Refused(Answer),
@@ -78,4 +79,25 @@ pub(crate) fn asked(
         return Asking::Refused(Answer::ShortRecord);
     }
     Asking::Fine
+}
+
+// 10: whether a packet is 42 bytes.
+pub(crate) fn packet_asked(packet: &[u8]) -> Asking
+    ensures { λ r. ⌜ r ≡ packetAsked (now (packet .entry)) ⌝ }
+{
+    if packet.len() != packet::PACKET_LENGTH {
+        return Asking::Refused(Answer::WrongLength);
+    }
+    Asking::Fine
+}
+
+// 10, then 11: whether a line is 45 bytes and its framing code passes.
+pub(crate) fn line_asked(line: &[u8]) -> Asking
+    ensures { λ r. ⌜ r ≡ lineAsked (now (line .entry)) ⌝ }
+{
+    match packet::framed_line(line) {
+        Framed::Packet => Asking::Fine,
+        Framed::WrongLength => Asking::Refused(Answer::WrongLength),
+        Framed::WrongFraming => Asking::Refused(Answer::WrongFraming),
+    }
 }

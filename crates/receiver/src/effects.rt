@@ -281,13 +281,14 @@ pub(crate) fn follow(
     act(standing, effect, packet, characters, marks, record)
 }
 
-pub(crate) fn answer_of(done: Done) -> Answer
-    ensures { λ r. ⌜ r ≡ answerOf done ⌝ }
+pub(crate) fn answer_of(done: Done, mended: u8) -> Answer
+    ensures { λ r. ⌜ r ≡ answerOf done mended ⌝ }
 {
     let closing = done.closing;
     Answer::Taken {
         kind: done.kind,
         count: done.count,
         closing,
+        mended,
     }
 }

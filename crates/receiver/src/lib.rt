@@ -4,7 +4,7 @@ mod asking;
 mod cells;
 mod effects;
 mod kinds;
-mod looking;
+mod mending;
 mod recording;
 mod selecting;
 
@@ -14,13 +14,15 @@ ghost use Rattle.receiver.specs.Recordings.{PlaysAs, played};
 ghost use Rattle.receiver.specs.Selections.{selectedPaper};
 use asking::Asking;
 use asking::asked;
+use asking::line_asked;
+use asking::packet_asked;
 use effects::answer_of;
 use effects::follow;
 use effects::join;
 use effects::standing_of;
-use looking::Looked;
-use looking::look_at_line;
-use looking::look_at_packet;
+use kinds::seen_of;
+use mending::mended_bytes;
+pub use mending::mended_of;
 use packet::Header;
 use packet::ZERO_HEADER;
 use page::Cells;
@@ -78,11 +80,13 @@ pub enum Closing {
 }
 
 pub enum Answer {
-    // The line's kind, the count of characters written, and the closing word.
+    // The line's kind, the count of characters written, the closing word, and how many of the Hamming bytes examined were mended: the two of the address, and
+    // in our row 0 the eight control bytes too.
     Taken {
         kind: u8,
         count: u8,
         closing: Closing,
+        mended: u8,
     },
     // 18
     Unlawful,
@@ -106,12 +110,27 @@ pub enum Played {
     Stopped(Answer),
 }
 
-// The receiver after a recording was played, how many lines were used, and how it ended.
+// Mended bytes over some lines: how many there were, how many lines had one, and how many were in the page's own lines, its header and its rows (kinds 2 and 1).
+pub struct Mended {
+    pub bytes: usize,
+    pub lines: usize,
+    pub own: usize,
+}
+
+// The receiver after a recording was played, how many lines were used, the bytes mended in them, the last included, and how it ended.
 pub struct Recorded {
     pub receiver: Receiver,
     pub used: usize,
+    pub mended: Mended,
     pub answer: Played,
 }
+
+// No byte was mended.
+const NONE_MENDED: Mended = Mended {
+    bytes: 0,
+    lines: 0,
+    own: 0,
+};
 
 // Nothing is selected, and everything is zero.
 const ZERO_RECEIVER: Receiver = Receiver {
@@ -173,16 +192,16 @@ pub fn take_packet(receiver: Receiver, packet: &[u8], record: &mut [u8]) -> Step
     if let Asking::Refused(answer) = asked(standing, &characters, &marks, record.len()) {
         return Stepped { receiver, answer };
     }
-    match look_at_packet(standing.selection.magazine, packet) {
-        Looked::Refused(answer) => Stepped { receiver, answer },
-        Looked::Shows(shows) => {
-            let done = follow(standing, shows, packet, &mut characters, &mut marks, record);
-            let after = done.standing;
-            Stepped {
-                receiver: join(after, characters, marks),
-                answer: answer_of(done),
-            }
-        }
+    if let Asking::Refused(answer) = packet_asked(packet) {
+        return Stepped { receiver, answer };
+    }
+    let shows = seen_of(standing.selection.magazine, packet);
+    let mended = mended_bytes(shows, packet);
+    let done = follow(standing, shows, packet, &mut characters, &mut marks, record);
+    let after = done.standing;
+    Stepped {
+        receiver: join(after, characters, marks),
+        answer: answer_of(done, mended),
     }
 }
 
@@ -196,23 +215,17 @@ pub fn take_line(receiver: Receiver, line: &[u8], record: &mut [u8]) -> Stepped
     if let Asking::Refused(answer) = asked(standing, &characters, &marks, record.len()) {
         return Stepped { receiver, answer };
     }
-    match look_at_line(standing.selection.magazine, line) {
-        Looked::Refused(answer) => Stepped { receiver, answer },
-        Looked::Shows(shows) => {
-            let done = follow(
-                standing,
-                shows,
-                packet::packet_of(line),
-                &mut characters,
-                &mut marks,
-                record,
-            );
-            let after = done.standing;
-            Stepped {
-                receiver: join(after, characters, marks),
-                answer: answer_of(done),
-            }
-        }
+    if let Asking::Refused(answer) = line_asked(line) {
+        return Stepped { receiver, answer };
+    }
+    let packet = packet::packet_of(line);
+    let shows = seen_of(standing.selection.magazine, packet);
+    let mended = mended_bytes(shows, packet);
+    let done = follow(standing, shows, packet, &mut characters, &mut marks, record);
+    let after = done.standing;
+    Stepped {
+        receiver: join(after, characters, marks),
+        answer: answer_of(done, mended),
     }
 }
 
@@ -225,6 +238,7 @@ pub fn take_recording(receiver: Receiver, recording: &[u8], record: &mut [u8]) -
         return Recorded {
             receiver,
             used: 0,
+            mended: NONE_MENDED,
             answer: Played::End,
         };
     }
@@ -235,15 +249,18 @@ pub fn take_recording(receiver: Receiver, recording: &[u8], record: &mut [u8]) -
         Asking::Refused(answer) => Recorded {
             receiver,
             used: 1,
+            mended: NONE_MENDED,
             answer: Played::Stopped(answer),
         },
         Asking::Fine => {
             let ended = play(standing, recording, &mut characters, &mut marks, record);
             let after = ended.standing;
+            let mended = ended.mended;
             let answer = ended.answer;
             Recorded {
                 receiver: join(after, characters, marks),
                 used: ended.used,
+                mended,
                 answer,
             }
         }

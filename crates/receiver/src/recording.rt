@@ -5,13 +5,19 @@ ghost use Rattle.packet.specs.Lines.{lineLength};
 ghost use Rattle.receiver.specs.Private.{EndsAs, Ready, endedAs, isClosing, joined};
 ghost use Rattle.receiver.specs.Recordings.{played};
 use crate::Closing;
+use crate::Mended;
+use crate::NONE_MENDED;
 use crate::Played;
+use crate::asking::Asking;
+use crate::asking::line_asked;
 use crate::effects::Standing;
 use crate::effects::answer_of;
 use crate::effects::follow;
 use crate::kinds::Seen;
-use crate::looking::Looked;
-use crate::looking::look_at_line;
+use crate::kinds::seen_of;
+use crate::mending::mended_address;
+use crate::mending::mended_bytes;
+use crate::mending::with_line;
 use grid::CELLS;
 use packet::LINE_LENGTH;
 
@@ -25,10 +31,11 @@ fn line_size(rest: usize) -> usize
     }
 }
 
-// How playing ended: the receiver but for its cells, the lines used, and the end or the answer that it stopped at.
+// How playing ended: the receiver but for its cells, the lines used, the bytes mended in them, and the end or the answer that it stopped at.
 pub(crate) struct Ended {
     pub(crate) standing: Standing,
     pub(crate) used: usize,
+    pub(crate) mended: Mended,
     pub(crate) answer: Played,
 }
 
@@ -42,12 +49,13 @@ fn stops(closing: Closing) -> bool
     }
 }
 
-fn ends(standing: Standing, used: usize, answer: Played) -> Ended
-    ensures { λ r. ⌜ r ≡ endedAs standing used answer ⌝ }
+fn ends(standing: Standing, used: usize, mended: Mended, answer: Played) -> Ended
+    ensures { λ r. ⌜ r ≡ endedAs standing used mended answer ⌝ }
 {
     Ended {
         standing,
         used,
+        mended,
         answer,
     }
 }
@@ -67,27 +75,33 @@ pub(crate) fn play(
     let mut standing = start;
     let mut at = 0;
     let mut used = 0;
+    let mut mended = NONE_MENDED;
     while at < recording.len() {
         let size = line_size(recording.len() - at);
         let line = &recording[at..at + size];
         at += size;
         used += 1;
-        match look_at_line(ours, line) {
-            Looked::Refused(answer) => return ends(standing, used, Played::Stopped(answer)),
-            Looked::Shows(shows) => {
-                if let Seen::Another = shows {
-                    continue;
-                }
-                let packet = packet::packet_of(line);
-                let done = follow(standing, shows, packet, characters, marks, record);
-                let next = done.standing;
-                standing = next;
-                let closing = done.closing;
-                if stops(closing) {
-                    return ends(standing, used, Played::Stopped(answer_of(done)));
-                }
-            }
+        if let Asking::Refused(answer) = line_asked(line) {
+            return ends(standing, used, mended, Played::Stopped(answer));
+        }
+        let packet = packet::packet_of(line);
+        let shows = seen_of(ours, packet);
+        if let Seen::Another = shows {
+            let more = with_line(mended, 0, mended_address(packet));
+            mended = more;
+            continue;
+        }
+        let fixed = mended_bytes(shows, packet);
+        let done = follow(standing, shows, packet, characters, marks, record);
+        let next = done.standing;
+        standing = next;
+        let more = with_line(mended, done.kind, fixed);
+        mended = more;
+        let closing = done.closing;
+        if stops(closing) {
+            let last = answer_of(done, fixed);
+            return ends(standing, used, mended, Played::Stopped(last));
         }
     }
-    ends(standing, used, Played::End)
+    ends(standing, used, mended, Played::End)
 }

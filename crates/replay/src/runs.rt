@@ -2,6 +2,7 @@
 use crate::forms;
 use receiver::Answer;
 use receiver::Closing;
+use receiver::Mended;
 use receiver::Played;
 use receiver::Receiver;
 use receiver::Selected;
@@ -36,17 +37,18 @@ fn closing_number(closing: Closing) -> u8 {
     }
 }
 
-fn answer_bytes(answer: Answer) -> [u8; 4] {
+fn answer_bytes(answer: Answer) -> [u8; 5] {
     match answer {
         Answer::Taken {
             kind,
             count,
             closing,
-        } => [0, kind, count, closing_number(closing)],
-        Answer::Unlawful => [18, 0, 0, 0],
-        Answer::ShortRecord => [12, 0, 0, 0],
-        Answer::WrongLength => [10, 0, 0, 0],
-        Answer::WrongFraming => [11, 0, 0, 0],
+            mended,
+        } => [0, kind, count, closing_number(closing), mended],
+        Answer::Unlawful => [18, 0, 0, 0, 0],
+        Answer::ShortRecord => [12, 0, 0, 0, 0],
+        Answer::WrongLength => [10, 0, 0, 0, 0],
+        Answer::WrongFraming => [11, 0, 0, 0, 0],
     }
 }
 
@@ -62,19 +64,28 @@ fn last_answer(played: Played) -> Answer {
             kind: AT_END,
             count: 0,
             closing: Closing::None,
+            mended: 0,
         },
     }
 }
 
-fn put_used(lines: usize) {
-    let bytes = [(lines / 256 % 256) as u8, (lines % 256) as u8];
+fn put_count(count: usize) {
+    let bytes = [(count / 256 % 256) as u8, (count % 256) as u8];
     cases::put(&bytes);
 }
 
-// A recording: how many lines were used, and the answer that it stopped at.
+fn put_mended(mended: Mended) {
+    put_count(mended.bytes);
+    put_count(mended.lines);
+    put_count(mended.own);
+}
+
+// A recording: how many lines were used, the bytes mended in them, and the answer that it stopped at.
 fn play(receiver: Receiver, bytes: &[u8], record: &mut [u8]) -> Stepped {
     let recorded = receiver::take_recording(receiver, bytes, record);
-    put_used(recorded.used);
+    put_count(recorded.used);
+    let mended = recorded.mended;
+    put_mended(mended);
     let played = recorded.answer;
     let answer = last_answer(played);
     let after = recorded.receiver;

@@ -21,7 +21,8 @@ use Rattle.page.specs.declared.Page.{Page}
 use Rattle.page.specs.declared.ReadAnswer.the-variants.{Read}
 use Rattle.page.proofs.Trips.{length-record, page-read-back, reads-written}
 use Rattle.receiver.specs.Effects.{Outcome, held, taken}
-use Rattle.receiver.specs.Entries.{Entered, closingNumber, entered, lawful, lineEntered, lineValues, made, newReceiver}
+use Rattle.receiver.specs.Entries.{Entered, closingNumber, entered, lawful, lineEntered, lineValues, made, newReceiver, packetGives}
+use Rattle.receiver.specs.Mended.{packetMended}
 use Rattle.receiver.specs.Selections.{inRange, matches}
 use Rattle.receiver.specs.declared.Closing.the-variants as closing
 use Rattle.receiver.specs.declared.Receiver.{Receiver}
@@ -53,7 +54,7 @@ module _ (run : Run) (ready : Ready run) (k : ℕ) (line : List ℕ) (at : recei
   abbrev takenAt : Outcome
   takenAt = taken (receiverAt run ready k) (packetOf line) (lentAt run ready k)
 
-  entry-taken : entryAt run k ≡ entered takenAt
+  entry-taken : entryAt run k ≡ packetGives (receiverAt run ready k) (packetOf line) (lentAt run ready k)
   unfolding entryAt entering
   entry-taken =
       ap (λ (l : List ℕ). lineEntered (receiverAt run ready k) l (lentAt run ready k)) at
@@ -117,7 +118,7 @@ module _ (bytes : List ℕ) (wanted : List Bool) (selection : Selection) (furthe
   matched : T (matches (before 0 .selection) (page .header))
   matched = subst (λ (s : Selection). T (matches s (page .header))) (sym (selects 0)) (feeds .matched)
 
-  opens-clean : entryAt run 0 .answer ≡ accepted (lineValues 2 (columns - headerColumn) closing.None)
+  opens-clean : entryAt run 0 .answer ≡ accepted (lineValues 2 (columns - headerColumn) closing.None 0)
   opens-clean =
       ap (λ (e : Entered). e .answer) (entry-taken run ready 0 (headerLine page) at-header (gives .header-row .framing))
       ∙ opened-answer (before 0) (headerLine page) (lentBefore 0) (withC4 (page .header)) (rowCharacters (page .cells .characters) 0)
@@ -152,7 +153,7 @@ module _ (bytes : List ℕ) (wanted : List Bool) (selection : Selection) (furthe
       (holding-next page gives rows n (low n h) (high n h) (before (suc n)) (lentBefore (suc n)) (ours (suc n)) (standing run ready (suc n) .sized)
       (holding-at n (omega arith)))
 
-  stores-all : (n : ℕ) → n < length rows → entryAt run (suc n) .answer ≡ accepted (lineValues 1 columns closing.None)
+  stores-all : (n : ℕ) → n < length rows → entryAt run (suc n) .answer ≡ accepted (lineValues 1 columns closing.None 0)
   stores-all n h =
       let was = holding-at n (omega arith) in
       ap (λ (e : Entered). e .answer) (entry-taken run ready (suc n) (rowLine page (getD rows n 0)) (at-row n h) (row-framing n h))
@@ -160,7 +161,7 @@ module _ (bytes : List ℕ) (wanted : List Bool) (selection : Selection) (furthe
       (row-given page gives (before (suc n)) (ours (suc n)) (getD rows n 0) (low n h) (high n h))
       (low n h) (high n h) (was .going)
 
-  stores-line : (k : ℕ) → 1 ≤ k → k < lineCount wanted → entryAt run k .answer ≡ accepted (lineValues 1 columns closing.None)
+  stores-line : (k : ℕ) → 1 ≤ k → k < lineCount wanted → entryAt run k .answer ≡ accepted (lineValues 1 columns closing.None 0)
   stores-line zero first h = absurd (omega arith)
   stores-line (suc n) first h = stores-all n (omega (arith, count-is page wanted))
 
@@ -178,7 +179,10 @@ module _ (bytes : List ℕ) (wanted : List Bool) (selection : Selection) (furthe
   abbrev last : Outcome
   last = takenAt run ready end further at-further (feeds .framing)
 
-  at-end : entryAt run end ≡ entered last
+  abbrev mended : ℕ
+  mended = packetMended (before end) (packetOf further)
+
+  at-end : entryAt run end ≡ entered last mended
   at-end = entry-taken run ready end further at-further (feeds .framing)
 
   zeroth : addressOf (packetOf further) ≡ Whole (before end .selection .magazine) 0
@@ -187,12 +191,12 @@ module _ (bytes : List ℕ) (wanted : List Bool) (selection : Selection) (furthe
   closes-end : closingOf (entryAt run end) ≡ closingNumber closing.Clean
   closes-end =
       ap closingOf at-end
-      ∙ (closing-entered last
+      ∙ (closing-entered last mended
       ∙ ap closingNumber (closes-going (before end) further (lentBefore end) (feeds .framing) zeroth (holding-all .going)))
 
   record-is : recordAfter run end ≡ recordOf (held (before end))
   record-is =
-      ap (take recordLength) (ap (λ (e : Entered). e .lent) at-end ∙ lent-entered last)
+      ap (take recordLength) (ap (λ (e : Entered). e .lent) at-end ∙ lent-entered last mended)
       ∙ writes-held (before end) further (lentBefore end) (feeds .framing) zeroth (holding-all .going)
 
   comes-back : ComesBack page wanted run

@@ -64,12 +64,13 @@ characters-found (code ∷ codes) fit =
 
 -- a packet whose columns hold characters that fit gives them
 module _ (packet : List ℕ) (whole : length packet ≡ packetLength) (magazine row : ℕ) (codes : List ℕ) where
-  gives-row : addressOf packet ≡ Whole magazine row → T (every (fits characterWidth) codes)
+  gives-row : T (sentByRules (dataLine packet)) → addressOf packet ≡ Whole magazine row → T (every (fits characterWidth) codes)
       → drop (firstColumn row) (columnBytes packet) ≡ map sentFor (drop (firstColumn row) codes)
       → GivesRow (dataLine packet) magazine row codes
   unfolding rowFound
-  gives-row address fit text =
+  gives-row rules address fit text =
       record {
+        rules = rules;
         framing = line-framed packet whole;
         address = ap addressOf (packet-back packet whole) ∙ address;
         found =
@@ -114,10 +115,14 @@ module _ (page : Page) (taken : Taken page) where
   header-packet-whole : length (headerPacket (page .magazine) header headerCodes) ≡ packetLength
   header-packet-whole = header-packet-length (page .magazine) header headerCodes header-whole
 
+  header-line-by-rules : T (sentByRules (headerLine page))
+  unfolding headerLine
+  header-line-by-rules = header-by-rules (page .magazine) header headerCodes header-whole
+
   header-gives-row : GivesRow (headerLine page) (page .magazine) 0 headerCodes
   unfolding headerLine firstColumn
   header-gives-row =
-      gives-row (headerPacket (page .magazine) header headerCodes) header-packet-whole (page .magazine) 0 headerCodes
+      gives-row (headerPacket (page .magazine) header headerCodes) header-packet-whole (page .magazine) 0 headerCodes header-line-by-rules
       (header-address (page .magazine) header headerCodes header-whole ∙ ap (λ (m : ℕ). Whole m 0) same-magazine) (characters-fit 0)
       (header-text-bytes (page .magazine) header headerCodes header-whole ∙ header-columns (page .magazine) header headerCodes header-whole)
 
@@ -126,10 +131,6 @@ module _ (page : Page) (taken : Taken page) where
   header-given =
       ap headerOf (packet-back (headerPacket (page .magazine) header headerCodes) header-packet-whole)
       ∙ (header-read (page .magazine) header headerCodes header-whole ∙ ap Good header-fits)
-
-  header-line-by-rules : T (sentByRules (headerLine page))
-  unfolding headerLine
-  header-line-by-rules = header-by-rules (page .magazine) header headerCodes header-whole
 
   header-line-magazine : sentMagazine (headerLine page) ≡ page .magazine
   unfolding headerLine
@@ -155,15 +156,15 @@ module _ (page : Page) (taken : Taken page) where
     row-text : drop (firstColumn row) (columnBytes (rowPacket (page .magazine) row codes)) ≡ map sentFor (drop (firstColumn row) codes)
     row-text = rw (text-first row low) (row-columns (page .magazine) row codes row-whole)
 
-    row-gives-row : GivesRow (rowLine page row) (page .magazine) row codes
-    unfolding rowLine
-    row-gives-row =
-        gives-row (rowPacket (page .magazine) row codes) (row-packet-length (page .magazine) row codes row-whole) (page .magazine) row codes
-        (row-address (page .magazine) row codes row-whole ∙ (λ i. Whole (same-magazine i) (same-row i))) (characters-fit row) row-text
-
     row-line-by-rules : T (sentByRules (rowLine page row))
     unfolding rowLine
     row-line-by-rules = row-by-rules (page .magazine) row codes row-whole low (omega arith)
+
+    row-gives-row : GivesRow (rowLine page row) (page .magazine) row codes
+    unfolding rowLine
+    row-gives-row =
+        gives-row (rowPacket (page .magazine) row codes) (row-packet-length (page .magazine) row codes row-whole) (page .magazine) row codes row-line-by-rules
+        (row-address (page .magazine) row codes row-whole ∙ (λ i. Whole (same-magazine i) (same-row i))) (characters-fit row) row-text
 
     row-line-magazine : sentMagazine (rowLine page row) ≡ page .magazine
     unfolding rowLine

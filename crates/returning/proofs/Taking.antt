@@ -20,7 +20,7 @@ use Rattle.page.specs.Lawful.{fresh, never, space}
 use Rattle.page.specs.declared.Cells.{Cells}
 use Rattle.receiver.specs.Cells.{aged, blank, firstColumn, howMany, oneMissing, rowFound, stored}
 use Rattle.receiver.specs.Effects.{Outcome, clears, closed, closingWord, headerTaken, opened, openingCells, rowStored, taken, textTaken}
-use Rattle.receiver.specs.Entries.{entered, lineValues}
+use Rattle.receiver.specs.Entries.{entered, lineValues, packetGives}
 use Rattle.receiver.specs.Kinds.{seen}
 use Rattle.receiver.specs.Selections.{matches}
 use Rattle.receiver.specs.declared.Closing.{Closing}
@@ -36,6 +36,7 @@ use Rattle.receiver.proofs.Outcomes.{Opens, Stores, taken-opens}
 use Rattle.receiver.proofs.Rows.{Stays, characterAt, first-small, found-at, header-first, length-found, markAt, place, stored-other-row, text-first}
 use Rattle.receiver.proofs.Sized.{Sized}
 use Rattle.receiver.proofs.Undoubted.{all-counted, length-text}
+use Rattle.demands.proofs.Mended.{unmended}
 use Rattle.returning.proofs.Given.{GivesRow}
 
 -- ---- a cell, its character and its mark
@@ -111,11 +112,12 @@ module _ (receiver : Receiver) (line lent : List ℕ) (row : ℕ) (characters : 
       all-counted (rowFound row (textOf (packetOf line) .bytes)) all-found
       ∙ omega (arith, length-found row (textOf (packetOf line) .bytes) (length-text (packetOf line)), text-first row first)
 
-  -- kind 1, and all forty are counted
-  pub stored-answer : entered outcome .answer ≡ accepted (lineValues 1 columns closing.None)
+  -- kind 1, all forty are counted, and nothing is mended
+  pub stored-answer : packetGives receiver (packetOf line) lent .answer ≡ accepted (lineValues 1 columns closing.None 0)
   unfolding entered textTaken
   stored-answer =
-      ap (λ (o : Outcome). entered o .answer) (stores .gives) ∙ ap (λ (n : ℕ). accepted (lineValues 1 n closing.None)) counted
+      ap₂ (λ (o : Outcome) (mended : ℕ). entered o mended .answer) (stores .gives) (unmended receiver line (gives .rules))
+      ∙ ap (λ (n : ℕ). accepted (lineValues 1 n closing.None 0)) counted
 
   pub stored-going : Going (outcome .receiver)
   stored-going = (
@@ -165,13 +167,13 @@ module _ (receiver : Receiver) (line lent : List ℕ) (found : Header) (characte
   pub opened-header : opening .receiver .header ≡ found
   opened-header = opening-header receiver (packetOf line) lent opening opens
 
-  -- kind 2 with all 32 counted, and nothing to close where no page was open
-  pub opened-answer : receiver .«open» ≡ false → entered opening .answer ≡ accepted (lineValues 2 (columns - headerColumn) closing.None)
+  -- kind 2 with all 32 counted, nothing mended, and nothing to close where no page was open
+  pub opened-answer : receiver .«open» ≡ false → packetGives receiver (packetOf line) lent .answer ≡ accepted (lineValues 2 (columns - headerColumn) closing.None 0)
   unfolding entered headerTaken
   opened-answer shut =
-      ap (λ (o : Outcome). accepted (lineValues (o .kind) (opening .count) (o .closing))) (opens .gives)
-      ∙ (ap (λ (n : ℕ). accepted (lineValues 2 n (closingWord receiver))) (opening-count receiver (packetOf line) lent opening opens sure)
-      ∙ ap (λ (word : Closing). accepted (lineValues 2 (columns - headerColumn) word)) (none-open receiver shut))
+      ap₂ (λ (o : Outcome) (mended : ℕ). accepted (lineValues (o .kind) (opening .count) (o .closing) mended)) (opens .gives) (unmended receiver line (gives .rules))
+      ∙ (ap (λ (n : ℕ). accepted (lineValues 2 n (closingWord receiver) 0)) (opening-count receiver (packetOf line) lent opening opens sure)
+      ∙ ap (λ (word : Closing). accepted (lineValues 2 (columns - headerColumn) word 0)) (none-open receiver shut))
 
   -- row 0 has its characters
   pub opened-cell : Sized (receiver .cells) → (column : ℕ) → headerColumn ≤ column → column < columns

@@ -26,7 +26,8 @@ use Rattle.page.specs.Records.{recordLength}
 use Rattle.page.specs.declared.Page.{Page}
 use Rattle.page.specs.declared.ReadAnswer.the-variants.{Read}
 use Rattle.receiver.specs.Entries.{closingNumber, lineValues, made}
-use Rattle.receiver.specs.Recordings.{played, stoppedAt}
+use Rattle.receiver.specs.Mended.{broughtBy}
+use Rattle.receiver.specs.Recordings.{Playing, played, stoppedAt}
 use Rattle.receiver.specs.Selections.{inRange, matches}
 use Rattle.receiver.specs.declared.Closing.the-variants as closing
 use Rattle.receiver.specs.declared.Selection.{Selection}
@@ -103,10 +104,10 @@ pub record Returned (given : Page) (wanted : List Bool) (page : Page) : Type 0 w
   pub header-never : take headerColumn (rowPart 0 (page .cells .marks)) ≡ replicate headerColumn never
   pub rows : (row : ℕ) → 1 ≤ row → row ≤ lastRow → RowReturned given page row (getD wanted (row - 1) false)
 
--- the header's line is kind 2 with count 32, each row's kind 1 with count 40, and the further line closes clean
+-- the header's line is kind 2 with count 32, each row's kind 1 with count 40, no byte of them is mended, and the further line closes clean
 pub record ComesBack (given : Page) (wanted : List Bool) (run : Run) : Type 0 where
-  pub opens : entryAt run 0 .answer ≡ accepted (lineValues 2 (columns - headerColumn) closing.None)
-  pub stores : (k : ℕ) → 1 ≤ k → k < lineCount wanted → entryAt run k .answer ≡ accepted (lineValues 1 columns closing.None)
+  pub opens : entryAt run 0 .answer ≡ accepted (lineValues 2 (columns - headerColumn) closing.None 0)
+  pub stores : (k : ℕ) → 1 ≤ k → k < lineCount wanted → entryAt run k .answer ≡ accepted (lineValues 1 columns closing.None 0)
   pub closes : closingOf (entryAt run (lineCount wanted)) ≡ closingNumber closing.Clean
   pub reads : readAnswer (recordAfter run (lineCount wanted)) ≡ Read
   pub holds : Returned given wanted (pageRead (recordAfter run (lineCount wanted)))
@@ -126,13 +127,16 @@ FeedingBack =
 abbrev pub recordingOf : List ℕ → List Bool → List ℕ → List ℕ → List ℕ
 recordingOf bytes wanted room further = take (bytesNeeded wanted) (sentInto bytes wanted room) ++ further
 
+-- playing stops at the line behind the given ones, with what it gives; of the bytes mended there are none but that line's
+abbrev pub stopsBehind : Run → ℕ → Playing
+stopsBehind run count = stoppedAt (entryAt run count) (suc count) (broughtBy (entryAt run count .answer))
+
 -- played to a new receiver it stops at the further line, with what that line gives in the run above
 abbrev pub PlayedBack : Type 0
 PlayedBack =
     (bytes : List ℕ) (wanted : List Bool) (room : List ℕ) (selection : Selection) (further lent : List ℕ)
     → Feeds bytes wanted selection further lent → bytesNeeded wanted ≤ length room
-    → played (made selection) (recordingOf bytes wanted room further) lent
-    ≡ stoppedAt (entryAt (fedBack bytes wanted selection further lent) (lineCount wanted)) (suc (lineCount wanted))
+    → played (made selection) (recordingOf bytes wanted room further) lent ≡ stopsBehind (fedBack bytes wanted selection further lent) (lineCount wanted)
 
 -- ---- the closing line
 
@@ -157,4 +161,4 @@ SentAndClosed =
     → Feeds bytes wanted selection (closingLine (pageRead bytes)) lent
     × ComesBack (pageRead bytes) wanted (fedBack bytes wanted selection (closingLine (pageRead bytes)) lent)
     × (played (made selection) (recordingOf bytes wanted room (closingLine (pageRead bytes))) lent
-    ≡ stoppedAt (entryAt (fedBack bytes wanted selection (closingLine (pageRead bytes)) lent) (lineCount wanted)) (suc (lineCount wanted)))
+    ≡ stopsBehind (fedBack bytes wanted selection (closingLine (pageRead bytes)) lent) (lineCount wanted))

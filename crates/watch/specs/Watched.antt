@@ -7,8 +7,10 @@ use lib.Dec.{eqb}
 use lib.ListN.{getD}
 use Rattle.laws.specs.Paper.{Paper}
 use Rattle.receiver.specs.Entries.{closingNumber}
+use Rattle.receiver.specs.Mended.{broughtBy}
 use Rattle.receiver.specs.Recordings.{isAccepted}
 use Rattle.receiver.specs.declared.Closing.the-variants as closing
+use Rattle.receiver.specs.declared.Mended.{Mended}
 use Rattle.watch.specs.declared.Watch.{Watch}
 use Rattle.watch.specs.declared.Watched.{Watched}
 use Rattle.watch.specs.declared.Word.{Word}
@@ -50,13 +52,24 @@ unfoldable pub isNumber : ℕ → Option ℕ → Bool
 isNumber number none = false
 isNumber number (some found) = eqb found number
 
+-- what a line adds to the bytes mended in the page's own lines. A line that closes a page ends that page's count; where it is the header of the next sending, it
+-- begins that one's
+unfoldable pub ownAfter : ℕ → Paper → ℕ
+unfolding added broughtBy closingOf
+ownAfter own answer = cond (eqb (closingOf answer) 0) (added own (broughtBy answer .own)) (broughtBy answer .own)
+
+-- and of the page that a line closes: what was counted before it
+unfoldable pub ownClosed : ℕ → Paper → ℕ
+unfolding added closingOf
+ownClosed own answer = cond (eqb (closingOf answer) 0) 0 (added own 0)
+
 -- ---- the watch
 
 unfoldable pub newWatch : Watch
-newWatch = record { gap = false; lines = 0; by10 = 0; by11 = 0; closed = 0 }
+newWatch = record { gap = false; lines = 0; by10 = 0; by11 = 0; closed = 0; mended = 0; «mended_lines» = 0; own = 0 }
 
 unfoldable pub lineWatched : Watch → Bool → Paper → Watched
-unfolding wordOf gapAfter added addedIf isNumber closingOf
+unfolding wordOf gapAfter added addedIf isNumber closingOf broughtBy ownAfter ownClosed
 lineWatched watch isOpen answer =
     record {
       watch =
@@ -66,18 +79,36 @@ lineWatched watch isOpen answer =
             by10 = addedIf (isNumber 10 (answer .number)) (watch .by10);
             by11 = addedIf (isNumber 11 (answer .number)) (watch .by11);
             closed = addedIf (not (eqb (closingOf answer) 0)) (watch .closed);
+            mended = added (watch .mended) (broughtBy answer .bytes);
+            «mended_lines» = added (watch .«mended_lines») (broughtBy answer .lines);
+            own = ownAfter (watch .own) answer;
           };
       word = wordOf (watch .gap) (closingOf answer);
+      mended = ownClosed (watch .own) answer;
     }
 
--- so many lines that were taken and closed nothing
-unfoldable pub linesPassed : Watch → ℕ → Watch
+-- so many lines that were taken and closed nothing, and the bytes mended in them
+unfoldable pub linesPassed : Watch → ℕ → Mended → Watch
 unfolding added
-linesPassed watch used =
-    record { gap = watch .gap; lines = added (watch .lines) used; by10 = watch .by10; by11 = watch .by11; closed = watch .closed }
+linesPassed watch used mended =
+    record {
+      gap = watch .gap;
+      lines = added (watch .lines) used;
+      by10 = watch .by10;
+      by11 = watch .by11;
+      closed = watch .closed;
+      mended = added (watch .mended) (mended .bytes);
+      «mended_lines» = added (watch .«mended_lines») (mended .lines);
+      own = added (watch .own) (mended .own);
+    }
+
+-- the bytes mended in all lines but one
+unfoldable pub without : Mended → Mended → Mended
+without all one = record { bytes = all .bytes - one .bytes; lines = all .lines - one .lines; own = all .own - one .own }
 
 -- so many lines of a recording: all passed where it ended, and where it stopped all but the last, whose answer it stopped at
-unfoldable pub recordingWatched : Watch → ℕ → Bool → Option Paper → Watched
-unfolding linesPassed lineWatched
-recordingWatched watch used isOpen none = record { watch = linesPassed watch used; word = word.None }
-recordingWatched watch used isOpen (some answer) = lineWatched (linesPassed watch (used - 1)) isOpen answer
+unfoldable pub recordingWatched : Watch → ℕ → Mended → Bool → Option Paper → Watched
+unfolding linesPassed lineWatched without broughtBy
+recordingWatched watch used mended isOpen none = record { watch = linesPassed watch used mended; word = word.None; mended = 0 }
+recordingWatched watch used mended isOpen (some answer) =
+    lineWatched (linesPassed watch (used - 1) (without mended (broughtBy answer))) isOpen answer

@@ -7,9 +7,10 @@ ghost use lib.Dec.{eqb};
 ghost use Rattle.receiver.specs.Entries.{answerPaper, closingNumber};
 ghost use Rattle.receiver.specs.Recordings.{playedPaper};
 ghost use Rattle.watch.specs.Private.{Hears};
-ghost use Rattle.watch.specs.Watched.{added, addedIf, lineWatched, linesPassed, newWatch, recordingWatched, wordOf};
+ghost use Rattle.watch.specs.Watched.{added, addedIf, lineWatched, linesPassed, newWatch, recordingWatched, without, wordOf};
 use receiver::Answer;
 use receiver::Closing;
+use receiver::Mended;
 use receiver::Played;
 use receiver::Recorded;
 use receiver::Stepped;
@@ -27,18 +28,24 @@ pub enum Word {
     Missing,
 }
 
-// Whether a line was refused while the page was open; how many lines there were, how many of them were refused by 10 and by 11, and how many pages closed.
+// Whether a line was refused while the page was open; how many lines there were, how many of them were refused by 10 and by 11, and how many pages closed; how many
+// Hamming bytes were mended, in how many lines, and how many so far in the own lines of the page that is open, its header and its rows.
 pub struct Watch {
     pub gap: bool,
     pub lines: u64,
     pub by10: u64,
     pub by11: u64,
     pub closed: u64,
+    pub mended: u64,
+    pub mended_lines: u64,
+    pub own: u64,
 }
 
+// The watch after a line, what is to be said of it, and of a page that closed how many bytes were mended in its own lines.
 pub struct Watched {
     pub watch: Watch,
     pub word: Word,
+    pub mended: u64,
 }
 
 // An answer's number, and the number of its closing word.
@@ -58,6 +65,9 @@ impl Watch {
             by10: 0,
             by11: 0,
             closed: 0,
+            mended: 0,
+            mended_lines: 0,
+            own: 0,
         }
     }
 }
@@ -80,6 +90,7 @@ fn heard_in(answer: Answer) -> Heard
             kind: _,
             count: _,
             closing,
+            mended: _,
         } => Heard {
             number: 0,
             closing: closing_number(closing),
@@ -140,12 +151,30 @@ fn added_if(yes: bool, count: u64) -> u64
     if yes { added_to(count, 1) } else { count }
 }
 
-fn lines_passed(watch: Watch, used: usize) -> Watch
-    ensures { λ r. ⌜ r ≡ linesPassed watch used ⌝ }
+fn lines_passed(watch: Watch, used: usize, mended: Mended) -> Watch
+    ensures { λ r. ⌜ r ≡ linesPassed watch used mended ⌝ }
 {
     let mut after = watch;
     after.lines = added_to(watch.lines, used as u64);
+    after.mended = added_to(watch.mended, mended.bytes as u64);
+    after.mended_lines = added_to(watch.mended_lines, mended.lines as u64);
+    after.own = added_to(watch.own, mended.own as u64);
     after
+}
+
+fn own_after(own: u64, closing: u8, more: u64) -> u64
+    ensures { λ r. ⌜ r ≡ cond (eqb closing 0) (added own more) more ⌝ }
+{
+    if closing == 0 {
+        return added_to(own, more);
+    }
+    more
+}
+
+fn own_closed(own: u64, closing: u8) -> u64
+    ensures { λ r. ⌜ r ≡ cond (eqb closing 0) 0 (added own 0) ⌝ }
+{
+    if closing == 0 { 0 } else { own }
 }
 
 fn after_line(watch: Watch, is_open: bool, answer: Answer) -> Watched
@@ -154,15 +183,24 @@ fn after_line(watch: Watch, is_open: bool, answer: Answer) -> Watched
     let heard = heard_in(answer);
     let number = heard.number;
     let closing = heard.closing;
+    let more = receiver::mended_of(answer);
     let word = word_of(watch.gap, closing);
+    let mended = own_closed(watch.own, closing);
     let after = Watch {
         gap: gap_after(watch.gap, is_open, number, closing),
         lines: added_to(watch.lines, 1),
         by10: added_if(number == 10, watch.by10),
         by11: added_if(number == 11, watch.by11),
         closed: added_if(closing != 0, watch.closed),
+        mended: added_to(watch.mended, more.bytes as u64),
+        mended_lines: added_to(watch.mended_lines, more.lines as u64),
+        own: own_after(watch.own, closing, more.own as u64),
     };
-    Watched { watch: after, word }
+    Watched {
+        watch: after,
+        word,
+        mended,
+    }
 }
 
 // One line: what the receiver's entry for a line or a packet gave.
@@ -174,33 +212,47 @@ pub fn watch_line(watch: Watch, stepped: Stepped) -> Watched
     after_line(watch, receiver.open, answer)
 }
 
-// All lines of a recording but its last, where it stopped at one.
-fn before_last(used: usize) -> usize
-    ensures { λ r. ⌜ r ≡ used - 1 ⌝ }
+// What is left of a count.
+fn less(all: usize, one: usize) -> usize
+    ensures { λ r. ⌜ r ≡ all - one ⌝ }
 {
-    if used == 0 {
+    if all < one {
         return 0;
     }
-    used - 1
+    all - one
+}
+
+// The bytes mended in all lines but one.
+fn mended_before(all: Mended, one: Mended) -> Mended
+    ensures { λ r. ⌜ r ≡ without all one ⌝ }
+{
+    Mended {
+        bytes: less(all.bytes, one.bytes),
+        lines: less(all.lines, one.lines),
+        own: less(all.own, one.own),
+    }
 }
 
 // Some lines: what the receiver's entry for a recording gave.
 pub fn watch_recording(watch: Watch, recorded: Recorded) -> Watched
-    ensures { λ r. ⌜ r ≡ recordingWatched watch (recorded .used) (recorded .receiver .«open») (playedPaper (recorded .answer)) ⌝ }
+    ensures { λ r. ⌜ r ≡ recordingWatched watch (recorded .used) (recorded .mended) (recorded .receiver .«open») (playedPaper (recorded .answer)) ⌝ }
 {
     let receiver = recorded.receiver;
     let used = recorded.used;
+    let mended = recorded.mended;
     let answer = recorded.answer;
     match answer {
         Played::End => {
-            let all = lines_passed(watch, used);
+            let all = lines_passed(watch, used, mended);
             Watched {
                 watch: all,
                 word: Word::None,
+                mended: 0,
             }
         }
         Played::Stopped(last) => {
-            let others = lines_passed(watch, before_last(used));
+            let before = mended_before(mended, receiver::mended_of(last));
+            let others = lines_passed(watch, less(used, 1), before);
             after_line(others, receiver.open, last)
         }
     }

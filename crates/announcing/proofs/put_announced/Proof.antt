@@ -1,25 +1,29 @@
 -- `announcing::put_announced` meets its contract: by the word, nothing, a line, or a line and the page.
 use mathlib.Core.Path.{_≡_, refl, sym, _∙_, ap, subst}
-use mathlib.Core.List.{List, append-assoc}
-use Prim.Native.Nat.{ℕ}
+use mathlib.Core.List.{List}
+use Prim.Native.Nat.{ℕ, _+_, _≤_}
 use native.Mathlib.Omega.{arith}
-use lib.ListN.{take}
+use lib.ListN.{length, take}
 use Rattle.page.specs.Reading.{pageRead}
 use Rattle.page.specs.Records.{recordLength}
 use Rattle.page.specs.declared.Page.{Page}
+use Rattle.printing.specs.Pages.{pageSize}
 use Rattle.watch.specs.declared.Word.{Word}
-use Rattle.announcing.specs.Private.{Printable, cellsSaid}
-use Rattle.announcing.specs.Told.{announced, cleanText, headingText, pageSaid}
+use Rattle.announcing.specs.Private.{Printable}
+use Rattle.announcing.specs.Said.{leftOutSize}
+use Rattle.announcing.specs.Told.{announced, cleanText, lineText, pageSaid}
 use Rattle.announcing.proofs.Fresh.{printable-read}
-use Rattle.announcing.proofs.Putting.{as-text, put-none, put-then, same-room}
+use Rattle.announcing.proofs.Lengths.{line-length}
+use Rattle.texts.proofs.Putting.{as-text, put-none, put-then, same-room}
 use borrow.Author.Needs.{needs}
 use Rattle.announcing.proofs.put_announced.Statement.{statement}
 use Rattle.announcing.proofs.put_announced.Tie as tie
 
 -- what is said in the case of the word that was found
-by-word : (lent : List ℕ) {which found : Word} → which ≡ found → {page : Page} → page ≡ pageRead (take recordLength lent) → pageSaid found page ≡ announced which lent
+by-word : (mended : ℕ) (lent : List ℕ) {which found : Word} → which ≡ found → {page : Page} → page ≡ pageRead (take recordLength lent)
+    → pageSaid found mended page ≡ announced which mended lent
 unfolding announced
-by-word lent {which} {found} e is = ap (pageSaid found) is ∙ ap (λ (w : Word). pageSaid w (pageRead (take recordLength lent))) (sym e)
+by-word mended lent {which} {found} e is = ap (pageSaid found mended) is ∙ ap (λ (w : Word). pageSaid w mended (pageRead (take recordLength lent))) (sym e)
 
 enum-told : tie.Need-enum-told
 enum-told c = search needs
@@ -36,15 +40,22 @@ slice-aggregate-put-line c = search needs
 put-line-requires : tie.Need-put-line-requires
 put-line-requires c κs = search needs
 
+-- behind the line of a clean page there is room for its cells
+line-fits : (c : tie.After-put-line)
+    → let a = c .before .before .before .before .before .before .before .before .args in
+    a .at + (length (lineText (c .before .before .before .page-in .result) cleanText (a .mended)) + (leftOutSize + pageSize)) ≤ length (a .room .now)
+line-fits c =
+    let start = c .before .before .before .before .before .before .before .before in
+    let line = line-length (c .before .before .before .page-in .result) (start .args .mended) (omega arith) cleanText in
+    omega (arith, start .pre)
+
 put-cells-requires : tie.Need-put-cells-requires
-unfolding headingText
 put-cells-requires c κs =
     let call = c .before .before .before .before in
-    let page = call .before .before .before .page-in in
-    let fits = call .before .before .before .before .before .before .before .before .pre in
+    let fits = line-fits call in
     let same = same-room (call .put-line .ensures) (omega arith) in
     let ends = call .put-line .ensures .ends in
-    (omega arith, subst (λ (p : Page). Printable (p .cells)) (sym (page .ensures)) (printable-read _))
+    (omega arith, subst (λ (p : Page). Printable (p .cells)) (sym (call .before .before .before .page-in .ensures)) (printable-read _))
 
 enum-told-3 : tie.Need-enum-told-3
 enum-told-3 c = search needs
@@ -74,20 +85,19 @@ returns : tie.Need-returns
 unfolding pageSaid
 returns c =
     let start = c .before .before .before .before in
-    as-text (put-none (start .args .room .now) (start .args .at)) (by-word _ (c .enum-told .given .1) refl)
+    as-text (put-none (start .args .room .now) (start .args .at)) (by-word _ _ (c .enum-told .given .1) refl)
 
 same-length : tie.Need-same-length
 same-length c = search needs
 
 returns-2 : tie.Need-returns-2
-unfolding pageSaid headingText
+unfolding pageSaid
 returns-2 c =
     let call = c .before .before .before .before .before .before .before in
-    let page = call .before .before .before .page-in in
-    let fits = call .before .before .before .before .before .before .before .before .pre in
+    let fits = line-fits call in
     as-text (put-then (call .put-line .ensures) (omega arith) (c .before .before .put-cells .ensures))
-    (append-assoc (headingText (page .result .magazine) (page .result .header)) cleanText (cellsSaid (page .result .cells))
-    ∙ by-word (call .before .before .before .before .before .before .before .before .args .«record» .now) (call .before .before .before .before .enum-told2 .given .1) (page .ensures))
+    (by-word _ (call .before .before .before .before .before .before .before .before .args .«record» .now) (call .before .before .before .before .enum-told2 .given .1)
+    (call .before .before .before .page-in .ensures))
 
 same-length-2 : tie.Need-same-length-2
 same-length-2 c = search needs
@@ -96,7 +106,7 @@ returns-3 : tie.Need-returns-3
 unfolding pageSaid
 returns-3 c =
     let call = c .before .before in
-    as-text (call .put-line2 .ensures) (by-word _ (call .before .before .before .before .enum-told3 .given .1) (call .before .before .page-in2 .ensures))
+    as-text (call .put-line2 .ensures) (by-word _ _ (call .before .before .before .before .enum-told3 .given .1) (call .before .before .page-in2 .ensures))
 
 same-length-3 : tie.Need-same-length-3
 same-length-3 c = search needs
@@ -105,7 +115,7 @@ returns-4 : tie.Need-returns-4
 unfolding pageSaid
 returns-4 c =
     let call = c .before .before in
-    as-text (call .put-line3 .ensures) (by-word _ (call .before .before .before .before .enum-told4 .given .1) (call .before .before .page-in3 .ensures))
+    as-text (call .put-line3 .ensures) (by-word _ _ (call .before .before .before .before .enum-told4 .given .1) (call .before .before .page-in3 .ensures))
 
 pub put-announced-spec : {M : Type 1} → statement M
 put-announced-spec =

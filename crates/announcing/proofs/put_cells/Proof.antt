@@ -9,7 +9,7 @@ use Rattle.printing.specs.Printed.{Printed}
 use Rattle.printing.proofs.Shown.{page-shown}
 use Rattle.announcing.specs.Told.{freshCharacters, leftOutText}
 use Rattle.announcing.proofs.Lengths.{left-out-length}
-use Rattle.announcing.proofs.Putting.{as-text, put-then, same-room}
+use Rattle.texts.proofs.Putting.{as-text, put-then, same-room}
 use borrow.Author.Needs.{needs}
 use Rattle.announcing.proofs.put_cells.Statement.{statement}
 use Rattle.announcing.proofs.put_cells.Tie as tie

@@ -3,7 +3,7 @@ use mathlib.Core.Path.{sym, _∙_, ap}
 use mathlib.Core.Bool.{Bool, cond}
 use mathlib.Core.List.{[]}
 use Rattle.announcing.specs.Told.{rowNumber}
-use Rattle.announcing.proofs.Putting.{as-text, put-none}
+use Rattle.texts.proofs.Putting.{as-text, put-none}
 use borrow.Author.Needs.{needs}
 use Rattle.announcing.proofs.put_if_older.Statement.{statement}
 use Rattle.announcing.proofs.put_if_older.Tie as tie

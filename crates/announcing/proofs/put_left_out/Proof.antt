@@ -7,10 +7,10 @@ use native.Mathlib.Omega.{arith}
 use lib.ListN.{length, length-append}
 use Rattle.grid.specs.Grid.{rows}
 use Rattle.printing.specs.Pages.{lineFeed}
-use Rattle.announcing.specs.Private.{Puts}
+use Rattle.texts.specs.Put.{Puts}
 use Rattle.announcing.specs.Told.{leftOutText, leftOutWords, olderRows}
 use Rattle.announcing.proofs.Lengths.{older-length}
-use Rattle.announcing.proofs.Putting.{as-text, put-none, put-then, same-room}
+use Rattle.texts.proofs.Putting.{as-text, put-none, put-then, same-room}
 use borrow.Author.Needs.{needs}
 use Rattle.announcing.proofs.put_left_out.Statement.{statement}
 use Rattle.announcing.proofs.put_left_out.Tie as tie

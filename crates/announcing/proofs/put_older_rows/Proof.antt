@@ -8,10 +8,10 @@ use native.Mathlib.Omega.{arith}
 use borrow.Author.Needs.{needs}
 use lib.ListN.{length, take, drop}
 use Rattle.grid.specs.Grid.{cellCount, columns, rows}
-use Rattle.announcing.specs.Private.{Puts}
+use Rattle.texts.specs.Put.{Puts}
 use Rattle.announcing.specs.Told.{olderRows, oneOlder, rowNumber}
 use Rattle.announcing.proofs.Lengths.{older-length}
-use Rattle.announcing.proofs.Putting.{as-text, put-none, put-then, same-room}
+use Rattle.texts.proofs.Putting.{as-text, put-none, put-then, same-room}
 use Rattle.announcing.proofs.put_older_rows.Statement.{statement}
 use Rattle.announcing.proofs.put_older_rows.Tie as tie
 

@@ -2,7 +2,7 @@
 use borrow.Author.Needs.{needs}
 use borrow.Author.Tests.{lt-ltb, le-ltb}
 use Rattle.announcing.specs.Told.{rowNumber}
-use Rattle.announcing.proofs.Putting.{as-text}
+use Rattle.texts.proofs.Putting.{as-text}
 use Rattle.announcing.proofs.put_row_number.Statement.{statement}
 use Rattle.announcing.proofs.put_row_number.Tie as tie
 

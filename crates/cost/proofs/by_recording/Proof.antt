@@ -21,6 +21,9 @@ take-recording-requires c κs = search needs
 cast-sum : tie.Need-cast-sum Inv-loop μ-loop
 cast-sum c = search needs
 
+mended-number-requires : tie.Need-mended-number-requires Inv-loop μ-loop
+mended-number-requires c κs = search needs
+
 array-read-sum : tie.Need-array-read-sum Inv-loop μ-loop
 array-read-sum c = search needs
 
@@ -48,6 +51,7 @@ by-recording-spec =
     loop-holds
     take-recording-requires
     cast-sum
+    mended-number-requires
     array-read-sum
     add-turn
     loop-less

@@ -1,19 +1,74 @@
-use mathlib.Core.Path.{sym, ap, _∙_, subst}
+use mathlib.Core.Path.{_≡_, sym, ap, _∙_, subst}
 use mathlib.Core.List.{List}
 use Prim.Native.Nat.{ℕ}
 use denote.Ref.{now}
-use Rattle.packet.specs.Addresses.{addressOf}
-use Rattle.packet.specs.Lines.{framed, packetOf}
-use Rattle.receiver.specs.Entries.{lineBy, lineEntered}
-use Rattle.receiver.specs.Kinds.{seen}
-use Rattle.receiver.specs.Private.{joined}
+use lib.ListN.{length}
+use Rattle.packet.specs.Lines.{framed, packetLength, packetOf}
+use Rattle.receiver.specs.Entries.{Entered, lineBy, lineEntered}
+use Rattle.receiver.specs.Mended.{mendedIn, packetMended}
+use Rattle.receiver.specs.Private.{askedOf, joined}
 use Rattle.receiver.specs.declared.Receiver.{Receiver}
+use Rattle.receiver.specs.declared.asking.Asking.the-variants.{Fine}
 use Rattle.receiver.specs.declared.effects.Standing.{Standing}
-use Rattle.receiver.proofs.Asked.{Looking, entry-done, entry-looked, entry-refused, fine, line-looks}
+use Rattle.receiver.specs.declared.kinds.Seen.{Seen}
+use Rattle.receiver.proofs.Asked.{Follows, entry-done, entry-looked, entry-refused, fine, line-follows}
 use Rattle.receiver.proofs.Lawful.{our-magazine}
 use borrow.Author.Needs.{needs}
 use Rattle.receiver.proofs.take_line.Statement.{statement}
 use Rattle.receiver.proofs.take_line.Tie as tie
+
+-- the receiver handed in, and taken apart
+module _ (c : tie.After-asked) where
+  abbrev start-of : tie.Start
+  start-of = c .before .before .before .before .before .before .before .before
+
+  abbrev apart-of : tie.After-standing-of
+  apart-of = c .before .before .before
+
+  abbrev handed : Receiver
+  handed = start-of .args .receiver
+
+  abbrev current : Receiver
+  current = joined (apart-of .standing-of .result) (handed .cells .characters) (handed .cells .marks)
+
+  same : current ≡ handed
+  same = ap (λ (s : Standing). joined s (handed .cells .characters) (handed .cells .marks)) (apart-of .standing-of .ensures .0)
+
+  abbrev lent : List ℕ
+  lent = now (start-of .args .«record»)
+
+  abbrev line : List ℕ
+  line = now (start-of .args .line)
+
+  abbrev further : Receiver → Entered
+  further r = lineBy (framed line) r line lent
+
+-- 18 and 12 have nothing against it
+module _ (c : tie.After-enum-told) where
+  abbrev asked-at : tie.After-asked
+  asked-at = c .before .before
+
+  asked-fine : askedOf (current asked-at) (length (lent asked-at)) ≡ Fine
+  asked-fine = sym (asked-at .asked .ensures) ∙ c .enum-told .given .1
+
+-- nor have 10 and 11, and the line has a packet
+module _ (c : tie.After-packet-of) where
+  abbrev told-at : tie.After-enum-told
+  told-at = c .before .before .before .before
+
+  abbrev here : tie.After-asked
+  here = asked-at told-at
+
+  follows : Follows (current here) (packetOf (line here)) (lent here) (further here (current here)) Fine
+  follows =
+      subst (Follows (current here) (packetOf (line here)) (lent here) (further here (current here)))
+      (sym (c .before .before .before .line-asked .ensures) ∙ c .before .enum-told2 .given .1) (line-follows (current here) (lent here) (line here))
+
+  abbrev packet : List ℕ
+  packet = now (c .packet-of .result)
+
+  whole : length packet ≡ packetLength
+  whole = ap length (c .packet-of .ensures) ∙ follows .0
 
 standing-of-requires : tie.Need-standing-of-requires
 standing-of-requires c κs = search needs
@@ -27,58 +82,50 @@ enum-known-answer c = search needs
 returns : tie.Need-returns
 unfolding lineEntered
 returns c =
-    let asking = c .before .before .before in
-    let standing = asking .before .before .before in
-    let args = standing .before .before .before .before .before .args in
-    let receiver = args .receiver in
-    let lent = now (args .«record») in
-    let current = joined (standing .standing-of .result) (receiver .cells .characters) (receiver .cells .marks) in
-    let same = ap (λ (s : Standing). joined s (receiver .cells .characters) (receiver .cells .marks)) (standing .standing-of .ensures .0) in
-    entry-refused receiver current same lent (λ (r : Receiver). lineBy (framed (now (args .line))) r (now (args .line)) lent) _
-    (sym (asking .asked .ensures) ∙ c .before .answer .given .1)
+    let at = c .before .before .before in
+    entry-refused (handed at) (current at) (same at) (lent at) (further at) _ (sym (at .asked .ensures) ∙ c .before .answer .given .1)
 
 enum-told : tie.Need-enum-told
 enum-told c = search needs
 
-look-at-line-requires : tie.Need-look-at-line-requires
-look-at-line-requires c κs =
-    let asking = c .before .before in
-    let standing = asking .before .before .before in
-    let args = standing .before .before .before .before .before .args in
-    let receiver = args .receiver in
-    let lent = now (args .«record») in
-    let current = joined (standing .standing-of .result) (receiver .cells .characters) (receiver .cells .marks) in
-    let is = fine current lent (sym (asking .asked .ensures) ∙ c .enum-told .given .1) in
-    our-magazine current (rw (is .0) tt)
+line-asked-requires : tie.Need-line-asked-requires
+line-asked-requires c κs = search needs
 
 enum-known-answer-2 : tie.Need-enum-known-answer-2
 enum-known-answer-2 c = search needs
 
-enum-known-shows : tie.Need-enum-known-shows
-enum-known-shows c = search needs
+returns-2 : tie.Need-returns-2
+unfolding lineEntered
+returns-2 c =
+    let asking = c .before .before .before in
+    let told = asking .before in
+    let at = asked-at told in
+    entry-looked (handed at) (current at) (same at) (lent at) (further at) (asked-fine told) _
+    (subst (Follows (current at) (packetOf (line at)) (lent at) (further at (current at)))
+    (sym (asking .line-asked .ensures) ∙ c .before .answer2 .given .1) (line-follows (current at) (lent at) (line at)))
+
+enum-told-2 : tie.Need-enum-told-2
+enum-told-2 c = search needs
 
 packet-of-requires : tie.Need-packet-of-requires
 packet-of-requires c κs = search needs
 
+seen-of-requires : tie.Need-seen-of-requires
+seen-of-requires c κs =
+    let at = here c in
+    let ours = our-magazine (current at) (rw (fine (current at) (lent at) (asked-fine (told-at c)) .0) tt) in
+    (ours .0, ours .1, whole c)
+
+mended-bytes-requires : tie.Need-mended-bytes-requires
+mended-bytes-requires c κs = whole (c .before)
+
 follow-requires : tie.Need-follow-requires
 follow-requires c κs =
-    let packets = c .before .before .before in
-    let known = packets .before .before in
-    let looking = known .before .before in
-    let told = looking .before in
-    let asking = told .before .before in
-    let standing = asking .before .before .before in
-    let args = standing .before .before .before .before .before .args in
-    let receiver = args .receiver in
-    let lent = now (args .«record») in
-    let current = joined (standing .standing-of .result) (receiver .cells .characters) (receiver .cells .marks) in
-    let is = fine current lent (sym (asking .asked .ensures) ∙ told .enum-told .given .1) in
-    let looked = sym (looking .look-at-line .ensures) ∙ known .shows .given .1 in
-    let seen-so = subst (Looking current _ lent _) looked (line-looks current lent (now (args .line))) in
-    let sizes = standing .standing-of .ensures in (
-      record { right = is .0; all-characters = sizes .1; all-marks = sizes .2; room = is .1 },
-      seen-so .1 ∙ ap (λ (p : List ℕ). seen (current .selection .magazine) (addressOf p)) (sym (packets .packet-of .ensures)),
-    )
+    let saw = c .before .before .before .before in
+    let at = here (saw .before) in
+    let is = fine (current at) (lent at) (asked-fine (told-at (saw .before))) in
+    let sizes = apart-of at .standing-of .ensures in
+    (record { right = is .0; all-characters = sizes .1; all-marks = sizes .2; room = is .1 }, saw .seen-of .ensures)
 
 join-requires : tie.Need-join-requires
 join-requires c κs = search needs
@@ -86,46 +133,20 @@ join-requires c κs = search needs
 answer-of-requires : tie.Need-answer-of-requires
 answer-of-requires c κs = search needs
 
-returns-2 : tie.Need-returns-2
-unfolding lineEntered
-returns-2 c =
-    let looking = c .before .before .before in
-    let told = looking .before in
-    let asking = told .before .before in
-    let standing = asking .before .before .before in
-    let args = standing .before .before .before .before .before .args in
-    let receiver = args .receiver in
-    let lent = now (args .«record») in
-    let current = joined (standing .standing-of .result) (receiver .cells .characters) (receiver .cells .marks) in
-    let same = ap (λ (s : Standing). joined s (receiver .cells .characters) (receiver .cells .marks)) (standing .standing-of .ensures .0) in
-    let is = sym (asking .asked .ensures) ∙ told .enum-told .given .1 in
-    let looked = sym (looking .look-at-line .ensures) ∙ c .before .answer2 .given .1 in
-    entry-looked receiver current same lent (λ (r : Receiver). lineBy (framed (now (args .line))) r (now (args .line)) lent) is _
-    (subst (Looking current _ lent _) looked (line-looks current lent (now (args .line))))
-
 same-length : tie.Need-same-length
 same-length c = search needs
 
 returns-3 : tie.Need-returns-3
-unfolding lineEntered
+unfolding lineEntered packetMended
 returns-3 c =
     let following = c .before .before .before .before .before in
-    let packets = following .before .before .before .before in
-    let known = packets .before .before in
-    let looking = known .before .before in
-    let told = looking .before in
-    let asking = told .before .before in
-    let standing = asking .before .before .before in
-    let args = standing .before .before .before .before .before .args in
-    let receiver = args .receiver in
-    let lent = now (args .«record») in
-    let current = joined (standing .standing-of .result) (receiver .cells .characters) (receiver .cells .marks) in
-    let same = ap (λ (s : Standing). joined s (receiver .cells .characters) (receiver .cells .marks)) (standing .standing-of .ensures .0) in
-    let is = sym (asking .asked .ensures) ∙ told .enum-told .given .1 in
-    let looked = sym (looking .look-at-line .ensures) ∙ known .shows .given .1 in
-    let seen-so = subst (Looking current _ lent _) looked (line-looks current lent (now (args .line))) in
-    entry-done receiver current same lent (λ (r : Receiver). lineBy (framed (now (args .line))) r (now (args .line)) lent) is
-    (packetOf (now (args .line))) (seen-so .2) _ (packets .packet-of .ensures) _ _ _ _ (following .follow .ensures) _ (c .before .join .ensures) _ (c .answer-of .ensures)
+    let mending = following .before .before .before .before in
+    let saw = mending .before in
+    let packed = saw .before in
+    let at = here packed in
+    let counts = mending .mended-bytes .ensures ∙ ap (λ (s : Seen). mendedIn s (packet packed)) (saw .seen-of .ensures) in
+    entry-done (handed at) (current at) (same at) (lent at) (further at) (asked-fine (told-at packed)) (packetOf (line at)) (follows packed .1)
+    _ (packed .packet-of .ensures) _ _ _ _ (following .follow .ensures) counts _ (c .before .join .ensures) _ (c .answer-of .ensures)
 
 pub take-line-spec : {M : Type 1} → statement M
 take-line-spec =
@@ -136,13 +157,15 @@ take-line-spec =
     enum-known-answer
     returns
     enum-told
-    look-at-line-requires
+    line-asked-requires
     enum-known-answer-2
-    enum-known-shows
+    returns-2
+    enum-told-2
     packet-of-requires
+    seen-of-requires
+    mended-bytes-requires
     follow-requires
     join-requires
     answer-of-requires
-    returns-2
     same-length
     returns-3)

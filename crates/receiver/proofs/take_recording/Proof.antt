@@ -1,7 +1,9 @@
-use mathlib.Core.Path.{sym, ap, _∙_}
+use mathlib.Core.Path.{_≡_, sym, ap, _∙_}
+use mathlib.Core.List.{List}
+use Prim.Native.Nat.{ℕ}
 use denote.Ref.{now}
-use borrow.Author.Needs.{needs}
 use Rattle.receiver.specs.Private.{joined}
+use Rattle.receiver.specs.declared.Receiver.{Receiver}
 use Rattle.receiver.specs.declared.effects.Standing.{Standing}
 use Rattle.receiver.proofs.Asked.{fine}
 use Rattle.receiver.proofs.Playing.{plays-nothing}
@@ -9,6 +11,32 @@ use Rattle.receiver.proofs.Turns.{recording-played, recording-refused}
 use borrow.Author.Needs.{needs}
 use Rattle.receiver.proofs.take_recording.Statement.{statement}
 use Rattle.receiver.proofs.take_recording.Tie as tie
+
+-- the receiver handed in, and taken apart
+module _ (c : tie.After-asked) where
+  abbrev apart-of : tie.After-standing-of
+  apart-of = c .before .before .before
+
+  abbrev some-lines : tie.Else1
+  some-lines = apart-of .before .before .before
+
+  abbrev start-of : tie.Start
+  start-of = some-lines .before .before .before
+
+  abbrev handed : Receiver
+  handed = start-of .args .receiver
+
+  abbrev current : Receiver
+  current = joined (apart-of .standing-of .result) (handed .cells .characters) (handed .cells .marks)
+
+  same : current ≡ handed
+  same = ap (λ (s : Standing). joined s (handed .cells .characters) (handed .cells .marks)) (apart-of .standing-of .ensures .0)
+
+  abbrev recording : List ℕ
+  recording = now (start-of .args .recording)
+
+  abbrev lent : List ℕ
+  lent = now (start-of .args .«record»)
 
 returns : tie.Need-returns
 returns c =
@@ -29,38 +57,28 @@ enum-told c = search needs
 
 play-requires : tie.Need-play-requires
 play-requires c κs =
-    let args = c .before .before .before .before .before .before .before .before .before .before .before .before .before .before .args in
-    let receiver = args .receiver in
-    let apart = c .before .before .before .before .before .before .before .before .standing-of in
-    let current = joined (apart .result) (receiver .cells .characters) (receiver .cells .marks) in
-    let is = fine current (now (args .«record»)) (sym (c .before .before .before .before .before .asked .ensures) ∙ c .before .before .before .enum-told .given .1) in
-    record { right = is .0; all-characters = apart .ensures .1; all-marks = apart .ensures .2; room = is .1 }
+    let told = c .before .before .before in
+    let at = told .before .before in
+    let is = fine (current at) (lent at) (sym (at .asked .ensures) ∙ told .enum-told .given .1) in
+    let sizes = apart-of at .standing-of .ensures in
+    record { right = is .0; all-characters = sizes .1; all-marks = sizes .2; room = is .1 }
 
 join-requires : tie.Need-join-requires
 join-requires c κs = search needs
 
 returns-2 : tie.Need-returns-2
 returns-2 c =
-    let args = c .before .before .before .before .before .before .before .before .before .before .before .before .args in
-    let receiver = args .receiver in
-    let apart = c .before .before .before .before .before .before .standing-of in
-    let current = joined (apart .result) (receiver .cells .characters) (receiver .cells .marks) in
-    let same = ap (λ (s : Standing). joined s (receiver .cells .characters) (receiver .cells .marks)) (apart .ensures .0) in
-    let asks = sym (c .before .before .before .asked .ensures) ∙ c .before .answer .given .1 in
-    recording-refused receiver current same (now (args .recording)) (now (args .«record»)) (c .before .before .before .before .before .before .before .before .before .if1 .left) _ asks
+    let at = c .before .before .before in
+    recording-refused (handed at) (current at) (same at) (recording at) (lent at) (some-lines at .if1 .left) _ (sym (at .asked .ensures) ∙ c .before .answer .given .1)
 
 same-length : tie.Need-same-length
 same-length c = search needs
 
 returns-3 : tie.Need-returns-3
 returns-3 c =
-    let args = c .before .before .before .before .before .before .before .before .before .before .before .before .before .before .before .before .before .before .before .args in
-    let receiver = args .receiver in
-    let apart = c .before .before .before .before .before .before .before .before .before .before .before .before .before .standing-of in
-    let current = joined (apart .result) (receiver .cells .characters) (receiver .cells .marks) in
-    let same = ap (λ (s : Standing). joined s (receiver .cells .characters) (receiver .cells .marks)) (apart .ensures .0) in
-    let play = c .before .before .before .before .play in
-    recording-played receiver current same (now (args .recording)) (now (args .«record»)) (play .result) _ _ _ (play .ensures) _ (c .join .ensures)
+    let played = c .before .before .before .before .before in
+    let at = played .before .before .before .before .before .before in
+    recording-played (handed at) (current at) (same at) (recording at) (lent at) (played .play .result) _ _ _ (played .play .ensures) _ (c .join .ensures)
 
 pub take-recording-spec : {M : Type 1} → statement M
 take-recording-spec =

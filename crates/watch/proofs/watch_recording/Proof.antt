@@ -14,8 +14,14 @@ lines-passed-requires c κs = search needs
 enum-known-answer : tie.Need-enum-known-answer
 enum-known-answer c = search needs
 
-before-last-requires : tie.Need-before-last-requires
-before-last-requires c κs = search needs
+mended-of-requires : tie.Need-mended-of-requires
+mended-of-requires c κs = search needs
+
+mended-before-requires : tie.Need-mended-before-requires
+mended-before-requires c κs = search needs
+
+less-requires : tie.Need-less-requires
+less-requires c κs = search needs
 
 lines-passed-requires-2 : tie.Need-lines-passed-requires-2
 lines-passed-requires-2 c κs = search needs
@@ -30,8 +36,16 @@ returns c = rw (c .before .enum-told .given .1, c .lines-passed .ensures)
 returns-2 : tie.Need-returns-2
 unfolding recordingWatched playedPaper
 returns-2 c =
-    let call = c .before .before .before .before in
-    rw (call .answer .given .1, c .after-line .ensures, c .before .lines-passed2 .ensures, c .before .before .before-last .ensures)
+    let before = c .before .before .before in
+    let known = before .before .before .before in
+    rw (
+      known .answer .given .1,
+      c .after-line .ensures,
+      c .before .lines-passed2 .ensures,
+      c .before .before .less .ensures,
+      before .mended-before .ensures,
+      before .before .mended-of .ensures,
+    )
 
 pub watch-recording-spec : {M : Type 1} → statement M
 watch-recording-spec =
@@ -40,7 +54,9 @@ watch-recording-spec =
     enum-told
     lines-passed-requires
     enum-known-answer
-    before-last-requires
+    mended-of-requires
+    mended-before-requires
+    less-requires
     lines-passed-requires-2
     after-line-requires
     returns

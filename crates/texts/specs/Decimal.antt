@@ -1,0 +1,30 @@
+-- A number in decimal, as the list of its bytes, and how they are held.
+use mathlib.Core.Bool.{cond}
+use mathlib.Core.List.{List, [], _∷_, _++_}
+use Prim.Native.Nat.{ℕ, zero, suc, _+_, _/_, _%_}
+use lib.Dec.{ltb}
+use lib.ListN.{length}
+use Rattle.laws.specs.Padded.{padded}
+use Rattle.texts.specs.declared.Digits.{Digits}
+
+abbrev pub digit : ℕ → ℕ
+digit n = 0x30 + n
+
+-- the digits of a number, with a bound on how many there are. Bounds that are enough give the same digits, and a number has fewer digits than
+-- the one below allows (`proofs/Decimal.antt`, `enough`)
+unfoldable pub digitsOf : ℕ → ℕ → List ℕ
+digitsOf zero n = []
+digitsOf (suc bound) n = cond (ltb n 10) (digit n ∷ []) (digitsOf bound (n / 10) ++ (digit (n % 10) ∷ []))
+
+-- in decimal
+unfoldable pub decimal : ℕ → List ℕ
+unfolding digitsOf
+decimal n = digitsOf (suc n) n
+
+-- a word of 64 bits has at most twenty (`proofs/Decimal.antt`, `word-digits`)
+abbrev pub mostDigits : ℕ
+mostDigits = 20
+
+-- digits in an array of twenty bytes, and how many there are
+unfoldable pub digitsHeld : List ℕ → Digits
+digitsHeld digits = record { bytes = padded mostDigits digits; used = length digits }
