@@ -3,7 +3,7 @@ use mathlib.Core.Bool.{true}
 use mathlib.Core.List.{List, [], _++_}
 use mathlib.Core.Path.{_≡_}
 use Prim.Native.Nat.{ℕ, _+_, _*_, min}
-use lib.ListN.{length, take, drop}
+use lib.ListN.{length}
 use Rattle.grid.specs.Grid.{cellCount}
 use Rattle.packet.specs.Lines.{lineLength}
 use Rattle.page.specs.declared.Cells.{Cells}

@@ -31,7 +31,6 @@ use Rattle.packet.proofs.Whole.{whole-text}
 use Rattle.page.specs.Records.{recordLength}
 use Rattle.receiver.specs.Cells.{firstColumn, oneMissing, rowFound}
 use Rattle.receiver.specs.Entries.{lawful, lineEntered, packetGives}
-use Rattle.receiver.specs.Effects.{taken}
 use Rattle.receiver.specs.declared.Receiver.{Receiver}
 use Rattle.receiver.proofs.Entering.{line-is-taken}
 use Rattle.receiver.proofs.Rows.{found-at, length-found}

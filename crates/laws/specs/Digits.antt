@@ -15,3 +15,7 @@ bit value n = value / weight n % 2
 unfoldable pub binary : List ℕ → ℕ
 binary [] = 0
 binary (digit ∷ digits) = digit * 2 ^ length digits + binary digits
+
+-- the largest number of 64 bits: a count holds no more
+abbrev pub mostCounted : ℕ
+mostCounted = 18446744073709551615

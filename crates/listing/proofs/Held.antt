@@ -1,11 +1,11 @@
 -- A line that grows: what it holds, and that it has room for more.
 use mathlib.Core.Path.{_≡_, sym, _∙_, ap}
 use mathlib.Core.List.{List, [], _∷_, _++_, append-assoc, append-nil}
-use Prim.Native.Nat.{ℕ, suc, _+_, _-_, _^_, _<_, _≤_}
+use Prim.Native.Nat.{ℕ, _+_, _-_, _^_, _<_, _≤_}
 use native.Mathlib.Numerals.{add-one}
 use native.Mathlib.Omega.{arith}
-use lib.ListN.{length, take, getD, set, replicate, length-append, length-replicate}
-use lib.Seq.{length-take-le, take-suc, take-append-seam, set-append-seam}
+use lib.ListN.{length, take, getD, set, length-append}
+use lib.Seq.{length-take-le, take-suc}
 use Rattle.laws.proofs.Padded.{one-longer, padded-length, padded-more, padded-text}
 use Rattle.texts.specs.Decimal.{decimal, mostDigits}
 use Rattle.texts.proofs.Decimal.{word-digits}

@@ -1,11 +1,11 @@
 -- A line that comes as it was sent is within any damage.
-use mathlib.Core.Path.{_≡_, ap, _∙_}
-use mathlib.Core.Bool.{Bool, true, _&&_, _||_}
+use mathlib.Core.Path.{_≡_, ap}
+use mathlib.Core.Bool.{Bool, true, _||_}
 use mathlib.Core.List.{List, [], _∷_}
 use Prim.Native.Nat.{ℕ}
 use native.Mathlib.Omega.{arith}
 use borrow.Author.Tests.{eq-eqb, le-leb}
-use lib.Bits.{bitXor, xor-self}
+use lib.Bits.{xor-self}
 use lib.Count.{ones}
 use lib.Dec.{T, eqb, leb}
 use lib.ListN.{getD, length}

@@ -9,6 +9,7 @@ use native.Mathlib.Omega.{arith}
 use borrow.Author.Tests.{eq-eqb, ne-eqb}
 use lib.ListN.{length, take, drop, length-drop}
 use lib.Seq.{drop-drop}
+use Rattle.laws.specs.Digits.{mostCounted}
 use Rattle.laws.specs.Paper.{Paper}
 use Rattle.laws.proofs.Bools.{passed}
 use Rattle.laws.proofs.Lists.{drop-min, take-min}
@@ -16,7 +17,7 @@ use Rattle.packet.specs.Lines.{framed, lineLength}
 use Rattle.page.specs.Records.{recordLength}
 use Rattle.receiver.specs.Entries.{Entered, Meets, answerPaper, lawful, lineBy, lineEntered}
 use Rattle.receiver.specs.Mended.{broughtBy, noneMended, summed}
-use Rattle.receiver.specs.Private.{Holds, mostCounted}
+use Rattle.receiver.specs.Private.{Holds}
 use Rattle.receiver.specs.Recordings.{Playing, PlaysAs, ended, goesOn, played, playedPaper, playing, stoppedAt}
 use Rattle.receiver.specs.declared.Mended.{Mended}
 use Rattle.receiver.specs.declared.Played.the-variants.{End, Stopped}

@@ -5,16 +5,16 @@ use mathlib.Core.List.{List}
 use Prim.Native.Nat.{ℕ, _+_, _-_, _≤_, _<_, min}
 use native.Mathlib.Omega.{arith}
 use lib.ListN.{length, take, drop, length-take}
+use Rattle.laws.specs.Digits.{mostCounted}
 use Rattle.coding.specs.Hamming.{howManyCorrected}
 use Rattle.packet.specs.Addresses.{addressOf}
 use Rattle.packet.specs.Lines.{framed, lineLength, packetLength, packetOf}
-use Rattle.packet.specs.Writing.{headerLength}
 use Rattle.packet.proofs.Whole.{whole-line}
 use Rattle.receiver.specs.Effects.{taken, unclosed}
 use Rattle.receiver.specs.Entries.{Entered, Meets, answerPaper, lineBy, lineEntered, packetGives}
 use Rattle.receiver.specs.Kinds.{seen}
 use Rattle.receiver.specs.Mended.{addressPair, brought, broughtBy, examined, mendedIn, noneMended, packetMended, summed}
-use Rattle.receiver.specs.Private.{Does, EndsAs, Holds, answerOf, askedOf, isClosing, joined, lineAsked, mostCounted}
+use Rattle.receiver.specs.Private.{Does, EndsAs, Holds, answerOf, askedOf, isClosing, joined, lineAsked}
 use Rattle.receiver.specs.Recordings.{Playing, PlaysAs, goesOn, played}
 use Rattle.receiver.specs.declared.Answer.{Answer}
 use Rattle.receiver.specs.declared.Closing.the-variants.{None}

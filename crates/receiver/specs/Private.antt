@@ -6,6 +6,7 @@ use mathlib.Core.Path.{_≡_}
 use Prim.Native.Nat.{ℕ, _+_, _*_, _≤_, _<_}
 use lib.Dec.{eqb, leb, ltb}
 use lib.ListN.{getD, length}
+use Rattle.laws.specs.Digits.{mostCounted}
 use Rattle.grid.specs.Grid.{cellCount, lastRow}
 use Rattle.packet.specs.Lines.{framed, packetLength}
 use Rattle.packet.specs.declared.Framed.{Framed}
@@ -137,10 +138,6 @@ pub record Does (outcome : Outcome) (done : Done) (characters marks lent : List 
 -- a line's answer
 abbrev pub answerOf : Done → ℕ → Answer
 answerOf done mended = answer.Taken (done .kind) (done .count) (done .closing) mended
-
--- the largest count
-abbrev pub mostCounted : ℕ
-mostCounted = 18446744073709551615
 
 -- a line's mended bytes can be added
 pub record Holds (so : Mended) (mended : ℕ) : Type 0 where

@@ -2,13 +2,11 @@
 ghost use mathlib.Core.Bool.{cond};
 ghost use mathlib.Core.List.{[], _∷_};
 ghost use mathlib.Core.Path.{_≡_};
-ghost use Prim.Native.Nat.{_≤_};
 ghost use lib.ListN.{length};
 ghost use Rattle.coding.specs.Bits.{turnedByte};
 ghost use Rattle.coding.specs.Hamming.{howManyCorrected};
 ghost use Rattle.packet.specs.Headers.{controlBytes};
 ghost use Rattle.packet.specs.Lines.{packetLength};
-ghost use Rattle.packet.specs.Texts.{headerColumn};
 ghost use Rattle.receiver.specs.Entries.{answerPaper};
 ghost use Rattle.receiver.specs.Mended.{addressPair, brought, broughtBy, isOwn, mendedIn, summed};
 ghost use Rattle.receiver.specs.Private.{Holds};

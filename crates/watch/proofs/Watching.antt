@@ -10,6 +10,7 @@ use native.Mathlib.Omega.{arith}
 use borrow.Author.Tests.{eqb-true, le-ltb}
 use lib.Dec.{T, eqb}
 use lib.ListN.{length, getD}
+use Rattle.laws.specs.Digits.{mostCounted}
 use Rattle.laws.specs.Paper.{Paper, accepted, refusedBy}
 use Rattle.laws.proofs.Bools.{both-true}
 use Rattle.laws.proofs.Keeps.{either}
@@ -23,7 +24,7 @@ use Rattle.receiver.specs.declared.Mended.{Mended}
 use Rattle.receiver.specs.declared.Receiver.{Receiver}
 use Rattle.receiver.proofs.Entering.{never-18}
 use Rattle.receiver.specs.Recordings.{goesOn, isAccepted}
-use Rattle.watch.specs.Watched.{added, addedIf, closingOf, gapAfter, isNumber, lineWatched, linesPassed, most, ownAfter, ownClosed, recordingWatched, without, wordOf}
+use Rattle.watch.specs.Watched.{added, addedIf, closingOf, gapAfter, isNumber, lineWatched, linesPassed, ownAfter, ownClosed, recordingWatched, without, wordOf}
 use Rattle.watch.specs.declared.Watch.{Watch}
 use Rattle.watch.specs.declared.Word.the-variants as word
 
@@ -181,11 +182,11 @@ recording-more watch isOpen (some answer) used first others h c =
     (passed-more watch 1 (used - 1) first (without others (broughtBy answer)) ∙ ap₂ (linesPassed watch) before (last-out first others (broughtBy answer) c))
 
 -- the count of a page that closed is a count
-closed-counted : (own : ℕ) (answer : Paper) → ownClosed own answer ≤ most
+closed-counted : (own : ℕ) (answer : Paper) → ownClosed own answer ≤ mostCounted
 unfolding ownClosed added
-closed-counted own answer = either (λ (n : ℕ). n ≤ most) (eqb (closingOf answer) 0) 0 (min most (own + 0)) (omega arith) (omega arith)
+closed-counted own answer = either (λ (n : ℕ). n ≤ mostCounted) (eqb (closingOf answer) 0) 0 (min mostCounted (own + 0)) (omega arith) (omega arith)
 
-pub page-counted : (watch : Watch) (used : ℕ) (mended : Mended) (isOpen : Bool) (stopped : Option Paper) → recordingWatched watch used mended isOpen stopped .mended ≤ most
+pub page-counted : (watch : Watch) (used : ℕ) (mended : Mended) (isOpen : Bool) (stopped : Option Paper) → recordingWatched watch used mended isOpen stopped .mended ≤ mostCounted
 unfolding recordingWatched lineWatched
 page-counted watch used mended isOpen none = omega arith
 page-counted watch used mended isOpen (some answer) = closed-counted (linesPassed watch (used - 1) (without mended (broughtBy answer)) .own) answer

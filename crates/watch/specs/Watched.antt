@@ -5,6 +5,7 @@ use mathlib.Core.Option.{Option, none, some}
 use Prim.Native.Nat.{ℕ, _+_, _-_, min}
 use lib.Dec.{eqb}
 use lib.ListN.{getD}
+use Rattle.laws.specs.Digits.{mostCounted}
 use Rattle.laws.specs.Paper.{Paper}
 use Rattle.receiver.specs.Entries.{closingNumber}
 use Rattle.receiver.specs.Mended.{broughtBy}
@@ -36,12 +37,9 @@ gapAfter gap isOpen answer = cond (isAccepted (answer .number)) (gap && eqb (clo
 
 -- ---- the counts
 
--- the largest number that a count can hold, at which it stays
-abbrev pub most : ℕ
-most = 18446744073709551615
-
+-- a count stays at the largest number that it can hold
 unfoldable pub added : ℕ → ℕ → ℕ
-added count more = min most (count + more)
+added count more = min mostCounted (count + more)
 
 unfoldable pub addedIf : Bool → ℕ → ℕ
 unfolding added

@@ -1,7 +1,6 @@
 -- `packet::is_mended` meets its contract: D fails of a byte where it fails of the byte turned.
 use mathlib.Core.Path.{sym, ap, _∙_}
 use Rattle.coding.specs.Hamming.{corrected}
-use Rattle.coding.specs.declared.Tests.{Tests}
 use Rattle.coding.proofs.Mended.{corrected-turned}
 use borrow.Author.Needs.{needs}
 use Rattle.packet.proofs.is_mended.Statement.{statement}

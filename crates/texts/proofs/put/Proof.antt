@@ -1,5 +1,4 @@
 -- `texts::put` meets its contract: by whether the place lies in the room, and whether the text then fits.
-use native.Mathlib.Omega.{arith}
 use borrow.Author.Needs.{needs}
 use Rattle.texts.proofs.Putting.{put-not, put-yes}
 use Rattle.texts.proofs.put.Statement.{statement}

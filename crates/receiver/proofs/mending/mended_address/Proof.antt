@@ -1,7 +1,5 @@
 use mathlib.Core.Path.{_∙_, ap₂}
-use mathlib.Core.List.{List}
 use Prim.Native.Nat.{ℕ, _+_}
-use native.Mathlib.Omega.{arith}
 use denote.Ref.{now}
 use lib.ListN.{getD}
 use Rattle.coding.specs.Bits.{turnedByte}
