@@ -6,11 +6,12 @@ use native.Mathlib.Omega.{arith}
 use lib.Dec.{lit≤, ltb}
 use lib.ListN.{length, take, drop, length-append}
 use Rattle.grid.specs.Grid.{columns, rows}
+use Rattle.laws.specs.Text.{lineFeed}
 use Rattle.laws.proofs.Keeps.{either}
 use Rattle.page.specs.Reading.{pageRead}
 use Rattle.page.specs.Records.{recordLength}
 use Rattle.page.specs.declared.Page.{Page}
-use Rattle.printing.specs.Pages.{lineFeed, pageSize, pageText}
+use Rattle.printing.specs.Pages.{pageSize, pageText}
 use Rattle.printing.proofs.Pages.{page-most}
 use Rattle.tally.specs.Tally.{mendedSize, mendedText}
 use Rattle.tally.proofs.Tallying.{mended-length}

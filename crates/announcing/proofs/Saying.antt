@@ -97,7 +97,7 @@ afterPlay before used so p =
       receiver = p .receiver;
       watch = watched .watch;
       lent = p .lent;
-      text = before .text ++ announced (watched .word) (watched .mended) (p .lent);
+      text = before .text ++ announced (watched .word) (watched .own) (p .lent);
     }
 
 -- of some lines: playing uses one or more, and saying goes on behind them
@@ -137,7 +137,7 @@ module _ (before : Saying) (lines : List ℕ) (d : length lines ≡ 0 → ⊥) w
         receiver = entry .receiver;
         watch = watched i .watch;
         lent = entry .lent;
-        text = before .text ++ announced (watched i .word) (watched i .mended) (entry .lent);
+        text = before .text ++ announced (watched i .word) (watched i .own) (entry .lent);
       }
 
   goes-stopped : (bound used : ℕ) (so : Mended) → length lines ≤ suc bound → Goes before lines (suc bound) used so (stoppedAt entry (used + 1) (summed so brings))
@@ -171,7 +171,7 @@ module _ (before : Saying) (lines : List ℕ) (d : length lines ≡ 0 → ⊥) w
           receiver = entry .receiver;
           watch = watched i .watch;
           lent = entry .lent;
-          text = before .text ++ announced (watched i .word) (watched i .mended) (entry .lent);
+          text = before .text ++ announced (watched i .word) (watched i .own) (entry .lent);
         })
         ∙ ap (λ (text : List ℕ). record { receiver = entry .receiver; watch = linesPassed (before .watch) 1 brings; lent = entry .lent; text = text }) (silent (before .text))
 
@@ -216,7 +216,7 @@ module _ (before : Saying) (lines : List ℕ) (d : length lines ≡ 0 → ⊥) w
             receiver = p .receiver;
             watch = watched i .watch;
             lent = p .lent;
-            text = before .text ++ announced (watched i .word) (watched i .mended) (p .lent);
+            text = before .text ++ announced (watched i .word) (watched i .own) (p .lent);
           }
 
       goes-further : (bound : ℕ) → Goes passed (drop lineLength lines) bound (used + 1) (summed so brings) p → Goes before lines (suc bound) used so p
@@ -285,7 +285,7 @@ module _ (before : Saying) (lines : List ℕ) (d : length lines ≡ 0 → ⊥) w
         receiver = whole .receiver;
         watch = watched i .watch;
         lent = whole .lent;
-        text = before .text ++ announced (watched i .word) (watched i .mended) (whole .lent);
+        text = before .text ++ announced (watched i .word) (watched i .own) (whole .lent);
       }
 
   as-said : said before lines ≡ linesSaid (length lines) before lines

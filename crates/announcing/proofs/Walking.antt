@@ -118,7 +118,7 @@ module _ {lines lent₀ room₀ : List ℕ} {start : Saying} {state : Announced}
           let p = played (state .receiver) rest lent in
           let watched = recordingWatched (state .watch) (p .used) (p .mended) (p .receiver .«open») (p .stopped) in
           let counted = page-counted (state .watch) (p .used) (p .mended) (p .receiver .«open») (p .stopped) in
-          announced-length (watched .word) (watched .mended) (omega arith) (p .lent)
+          announced-length (watched .word) (watched .own) (omega arith) (p .lent)
 
       -- it is some way further
       pub further : state .used < next .used
@@ -180,7 +180,7 @@ watched-as watch recorded plays i = recordingWatched watch (plays .counted i) (p
 pub stops : (before : Announced) (lines lent room : List ℕ) (recorded : Recorded) (watched : Watched) {lent′ room′ : List ℕ} {bytes size : ℕ}
     → PlaysAs (played (before .receiver) lines lent) recorded lent′
     → watched ≡ recordingWatched (before .watch) (recorded .used) (recorded .mended) (recorded .receiver .«open») (playedPaper (recorded .answer))
-    → Puts (announced (watched .word) (watched .mended) lent′) room (before .length) room′ size
+    → Puts (announced (watched .word) (watched .own) lent′) room (before .length) room′ size
     → bytes ≡ min (recorded .used * lineLength) (length lines)
     → Stops before lines lent room (record { receiver = recorded .receiver; watch = watched .watch; used = before .used + bytes; length = size }) lent′ room′
 unfolding stopSaid
@@ -191,5 +191,5 @@ stops before lines lent room recorded watched plays watches put far =
       watched = ap (λ (w : Watched). w .watch) is;
       left = plays .left;
       used = ap (λ (n : ℕ). before .used + n) (far ∙ ap (λ (n : ℕ). min (n * lineLength) (length lines)) (plays .counted));
-      put = as-text put (ap₂ (λ (w : Watched) (l : List ℕ). announced (w .word) (w .mended) l) is (plays .left));
+      put = as-text put (ap₂ (λ (w : Watched) (l : List ℕ). announced (w .word) (w .own) l) is (plays .left));
     }

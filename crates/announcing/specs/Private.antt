@@ -39,7 +39,7 @@ stopSaid before lines =
       receiver = playing .receiver;
       watch = watched .watch;
       lent = playing .lent;
-      text = before .text ++ announced (watched .word) (watched .mended) (playing .lent);
+      text = before .text ++ announced (watched .word) (watched .own) (playing .lent);
     }
 
 -- a state of the walk over some lines, with what was said so far

@@ -35,7 +35,7 @@ lineSaid before line =
       receiver = entry .receiver;
       watch = watched .watch;
       lent = entry .lent;
-      text = before .text ++ announced (watched .word) (watched .mended) (entry .lent);
+      text = before .text ++ announced (watched .word) (watched .own) (entry .lent);
     }
 
 -- at most so many lines

@@ -6,6 +6,7 @@ use mathlib.Core.List.{List, [], _∷_, _++_, zipWith}
 use Prim.Native.Nat.{ℕ, zero, suc, _+_, _*_, _/_, _%_}
 use lib.Dec.{eqb, ltb}
 use lib.ListN.{take, drop}
+use Rattle.laws.specs.Text.{lineFeed}
 use Rattle.grid.specs.Grid.{columns, rows}
 use Rattle.packet.specs.declared.Header.{Header}
 use Rattle.page.specs.Lawful.{isFresh, older, space}
@@ -13,7 +14,7 @@ use Rattle.page.specs.Reading.{pageRead}
 use Rattle.page.specs.Records.{recordLength}
 use Rattle.page.specs.declared.Cells.{Cells}
 use Rattle.page.specs.declared.Page.{Page}
-use Rattle.printing.specs.Pages.{lineFeed, pageText}
+use Rattle.printing.specs.Pages.{pageText}
 use Rattle.tally.specs.Tally.{mendedText}
 use Rattle.watch.specs.declared.Word.{Word}
 use Rattle.watch.specs.declared.Word.the-variants as word

@@ -286,7 +286,7 @@ fn to_next_stop(before: Announced, lines: &[u8], record: &mut [u8], room: &mut [
     let watch = before.watch;
     let watched = watch::watch_recording(watch, recorded);
     let word = watched.word;
-    let length = put_announced(room, before.length, word, watched.mended, record);
+    let length = put_announced(room, before.length, word, watched.own, record);
     let next = recorded.receiver;
     let more = watched.watch;
     Announced {

@@ -5,7 +5,7 @@ use Prim.Native.Nat.{ℕ, suc, _+_, _-_, _<_, _≤_}
 use native.Mathlib.Omega.{arith}
 use lib.ListN.{length, take, set, replicate, length-append, length-replicate}
 use lib.Seq.{take-append-seam, set-append-seam}
-use Rattle.laws.specs.Padded.{padded}
+use Rattle.laws.specs.Text.{padded}
 
 module _ (room : ℕ) (text : List ℕ) where
   pub padded-text : take (length text) (padded room text) ≡ text

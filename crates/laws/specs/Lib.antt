@@ -2,6 +2,6 @@ pub mod Below
 pub mod Digits
 pub mod Every
 pub mod Fields
-pub mod Padded
 pub mod Paper
+pub mod Text
 pub mod Unique

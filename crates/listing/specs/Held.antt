@@ -3,7 +3,7 @@ use mathlib.Core.List.{List}
 use mathlib.Core.Option.{Option, none, some}
 use Prim.Native.Nat.{ℕ}
 use lib.ListN.{length}
-use Rattle.laws.specs.Padded.{padded}
+use Rattle.laws.specs.Text.{padded}
 use Rattle.listing.specs.Lines.{Told}
 use Rattle.listing.specs.declared.Line.{Line}
 use Rattle.listing.specs.declared.Listed.{Listed}

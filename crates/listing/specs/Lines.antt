@@ -8,13 +8,11 @@ use Prim.Native.Nat.{ℕ, zero, suc}
 use lib.Dec.{eqb, ltb}
 use lib.ListN.{length, getD}
 use Rattle.laws.specs.Paper.{Paper}
+use Rattle.laws.specs.Text.{lineFeed}
 use Rattle.texts.specs.Decimal.{decimal}
 use Rattle.field.specs.Field.{asked, unitAt}
 
 -- ---- words
-
-abbrev pub lineFeed : List ℕ
-lineFeed = 0x0A ∷ []
 
 abbrev pub space : List ℕ
 space = 0x20 ∷ []

@@ -4,8 +4,9 @@ use mathlib.Core.List.{List, [], _∷_, _++_}
 use mathlib.Core.Option.{Option, none, some}
 use Prim.Native.Nat.{ℕ, _+_, _/_, _%_}
 use lib.Dec.{eqb}
+use Rattle.laws.specs.Text.{lineFeed}
 use Rattle.page.specs.Reading.{readAnswer, readPaper, pageRead}
-use Rattle.printing.specs.Pages.{lineFeed, pageText}
+use Rattle.printing.specs.Pages.{pageText}
 
 -- "refused ", and a number of two digits
 abbrev pub refusedText : ℕ → List ℕ

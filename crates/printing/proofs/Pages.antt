@@ -6,13 +6,14 @@ use native.Mathlib.Numerals.{add-one}
 use native.Mathlib.Omega.{arith}
 use lib.ListN.{length, getD, set, take, drop, replicate, length-append, length-drop, length-map, length-replicate, length-take}
 use lib.Seq.{take-all, take-at, drop-at, drop-drop, paste, paste-zero, paste-suc}
+use Rattle.laws.specs.Text.{lineFeed}
 use Rattle.laws.proofs.Lists.{drop-replicate, getD-map, getD-part, length-part}
 use Rattle.grid.specs.Grid.{cellCount, columns, rows}
 use Rattle.display.specs.Display.{zeroCell}
 use Rattle.display.specs.Pages.{pageCells}
 use Rattle.display.specs.declared.Cell.{Cell}
 use Rattle.printing.specs.Printed.{cellByte}
-use Rattle.printing.specs.Pages.{lineFeed, lineSize, lineText, linesText, pageSize, pageText}
+use Rattle.printing.specs.Pages.{lineSize, lineText, linesText, pageSize, pageText}
 
 -- the cells of a row, and their bytes
 abbrev pub rowCells : List Cell → ℕ → List Cell

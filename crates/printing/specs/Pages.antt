@@ -1,10 +1,11 @@
 -- Document 01, "Programs": the page printer takes a record and prints 24 lines. Nothing is trimmed, and every line ends in a line feed. By request 1 of document
 -- 02 a line is a row of the page's cells; what is refused is what the display refuses, by 25.
 use mathlib.Core.Bool.{cond}
-use mathlib.Core.List.{List, [], _∷_, _++_, map}
+use mathlib.Core.List.{List, [], _++_, map}
 use Prim.Native.Nat.{ℕ, zero, suc, _+_, _*_}
 use lib.ListN.{take, drop, replicate}
 use Rattle.laws.specs.Paper.{accepted, refusedBy}
+use Rattle.laws.specs.Text.{lineFeed}
 use Rattle.grid.specs.Grid.{columns, rows}
 use Rattle.display.specs.Pages.{displayAnswerPaper, isPage, pageCells}
 use Rattle.display.specs.declared.Cell.{Cell}
@@ -17,9 +18,6 @@ lineSize = columns + 1
 
 abbrev pub pageSize : ℕ
 pageSize = rows * lineSize
-
-abbrev pub lineFeed : List ℕ
-lineFeed = 0x0A ∷ []
 
 unfoldable pub lineText : List Cell → List ℕ
 unfolding cellByte

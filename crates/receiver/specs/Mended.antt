@@ -42,7 +42,7 @@ packetMended receiver packet = mendedIn (seen (receiver .selection .magazine) (a
 
 -- ---- over some lines
 
--- a page's own lines are its header, of kind 2, and its rows, of kind 1
+-- a page's own lines are its header, of kind 2, and its rows, of kind 1. A header that closes a sending and opens the next is the next one's
 unfoldable pub isOwn : ℕ → Bool
 isOwn kind = eqb kind 1 || eqb kind 2
 

@@ -110,7 +110,8 @@ pub enum Played {
     Stopped(Answer),
 }
 
-// Mended bytes over some lines: how many there were, how many lines had one, and how many were in the page's own lines, its header and its rows (kinds 2 and 1).
+// Mended bytes over some lines: how many there were, how many lines had one, and how many were in lines that are a page's own, its header and its rows (kinds 2 and 1).
+// Where the last line closes a page and opens its next sending, the bytes of that line (`mended_of` its answer) are the next sending's.
 pub struct Mended {
     pub bytes: usize,
     pub lines: usize,

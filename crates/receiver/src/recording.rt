@@ -60,7 +60,8 @@ fn ends(standing: Standing, used: usize, mended: Mended, answer: Played) -> Ende
     }
 }
 
-// Lines end to end, for a receiver that is known to be lawful and a record that is long enough. A line of another's is passed over at once.
+// Lines end to end, for a receiver that is known to be lawful and a record that is long enough. Of a line of another's, which is
+// of kind 0, only the address is looked at.
 pub(crate) fn play(
     start: Standing,
     recording: &[u8],
@@ -91,15 +92,15 @@ pub(crate) fn play(
             mended = more;
             continue;
         }
-        let fixed = mended_bytes(shows, packet);
+        let in_line = mended_bytes(shows, packet);
         let done = follow(standing, shows, packet, characters, marks, record);
         let next = done.standing;
         standing = next;
-        let more = with_line(mended, done.kind, fixed);
+        let more = with_line(mended, done.kind, in_line);
         mended = more;
         let closing = done.closing;
         if stops(closing) {
-            let last = answer_of(done, fixed);
+            let last = answer_of(done, in_line);
             return ends(standing, used, mended, Played::Stopped(last));
         }
     }

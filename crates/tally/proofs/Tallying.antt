@@ -7,14 +7,14 @@ use native.Mathlib.Omega.{arith}
 use borrow.Author.Tests.{eq-eqb, ne-eqb}
 use lib.Dec.{eqb}
 use lib.ListN.{length, take, replicate, length-append, length-replicate}
-use Rattle.laws.specs.Padded.{padded}
+use Rattle.laws.specs.Text.{lineFeed, padded}
 use Rattle.laws.proofs.Keeps.{either}
 use Rattle.laws.proofs.Padded.{padded-text}
 use Rattle.texts.specs.Decimal.{decimal, mostDigits}
 use Rattle.texts.specs.Put.{Puts, PutsWhole}
 use Rattle.texts.proofs.Decimal.{word-digits}
 use Rattle.texts.proofs.Putting.{put-fits, put-in-zeros, put-none, put-then, same-room}
-use Rattle.tally.specs.Tally.{byteMended, bytesMended, countText, lineFeed, mendedHeld, mendedSize, mendedText, shareHeld, shareSize, shareText}
+use Rattle.tally.specs.Tally.{byteMended, bytesMended, countText, mendedHeld, mendedSize, mendedText, shareHeld, shareSize, shareText}
 use Rattle.tally.specs.declared.MendedText.{MendedText}
 use Rattle.tally.specs.declared.ShareText.{ShareText}
 

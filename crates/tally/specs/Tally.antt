@@ -4,7 +4,7 @@ use mathlib.Core.List.{List, [], _∷_, _++_}
 use Prim.Native.Nat.{ℕ, _+_}
 use lib.Dec.{eqb}
 use lib.ListN.{length}
-use Rattle.laws.specs.Padded.{padded}
+use Rattle.laws.specs.Text.{lineFeed, padded}
 use Rattle.texts.specs.Decimal.{decimal, mostDigits}
 use Rattle.tally.specs.declared.MendedText.{MendedText}
 use Rattle.tally.specs.declared.ShareText.{ShareText}
@@ -37,9 +37,6 @@ lineWord = 0x20 ∷ 0x6C ∷ 0x69 ∷ 0x6E ∷ 0x65 ∷ []
 -- " lines"
 abbrev pub linesWord : List ℕ
 linesWord = 0x20 ∷ 0x6C ∷ 0x69 ∷ 0x6E ∷ 0x65 ∷ 0x73 ∷ []
-
-abbrev pub lineFeed : List ℕ
-lineFeed = 0x0A ∷ []
 
 -- of a page
 unfoldable pub mendedText : ℕ → List ℕ

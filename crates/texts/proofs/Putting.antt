@@ -8,7 +8,7 @@ use native.Mathlib.Omega.{arith}
 use borrow.Author.Tests.{le-ltb, lt-ltb}
 use lib.ListN.{length, take, drop, replicate, length-append, take-append-drop}
 use lib.Seq.{drop-at, drop-drop, length-take-le, take-all, take-at, paste, length-paste}
-use Rattle.laws.specs.Padded.{padded}
+use Rattle.laws.specs.Text.{padded}
 use Rattle.laws.proofs.Lists.{drop-replicate}
 use Rattle.texts.specs.Put.{Puts, PutsWhole, laidAt}
 

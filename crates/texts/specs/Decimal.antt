@@ -4,7 +4,7 @@ use mathlib.Core.List.{List, [], _∷_, _++_}
 use Prim.Native.Nat.{ℕ, zero, suc, _+_, _/_, _%_}
 use lib.Dec.{ltb}
 use lib.ListN.{length}
-use Rattle.laws.specs.Padded.{padded}
+use Rattle.laws.specs.Text.{padded}
 use Rattle.texts.specs.declared.Digits.{Digits}
 
 abbrev pub digit : ℕ → ℕ

@@ -52,7 +52,7 @@ and-true false = refl
 
 -- a line that goes on leaves the watch one line more, with its mended bytes, and has no word
 pub line-on : (watch : Watch) (isOpen : Bool) (answer : Paper) → goesOn answer ≡ true
-    → lineWatched watch isOpen answer ≡ record { watch = linesPassed watch 1 (broughtBy answer); word = word.None; mended = 0 }
+    → lineWatched watch isOpen answer ≡ record { watch = linesPassed watch 1 (broughtBy answer); word = word.None; own = 0 }
 unfolding lineWatched linesPassed gapAfter isAccepted isNumber addedIf wordOf ownAfter ownClosed
 line-on watch isOpen answer e =
     let o = on answer e in
@@ -175,7 +175,7 @@ covers-more more all (some answer) c = at-least-with more c
 pub recording-more : (watch : Watch) (isOpen : Bool) (stopped : Option Paper) (used : ℕ) (first others : Mended) → 1 ≤ used → Covers others stopped
     → recordingWatched (linesPassed watch 1 first) used others isOpen stopped ≡ recordingWatched watch (1 + used) (summed first others) isOpen stopped
 unfolding recordingWatched
-recording-more watch isOpen none used first others h c = ap (λ (w : Watch). record { watch = w; word = word.None; mended = 0 }) (passed-more watch 1 used first others)
+recording-more watch isOpen none used first others h c = ap (λ (w : Watch). record { watch = w; word = word.None; own = 0 }) (passed-more watch 1 used first others)
 recording-more watch isOpen (some answer) used first others h c =
     let before : 1 + (used - 1) ≡ 1 + used - 1 = omega arith in
     ap (λ (w : Watch). lineWatched w isOpen answer)
@@ -186,7 +186,7 @@ closed-counted : (own : ℕ) (answer : Paper) → ownClosed own answer ≤ mostC
 unfolding ownClosed added
 closed-counted own answer = either (λ (n : ℕ). n ≤ mostCounted) (eqb (closingOf answer) 0) 0 (min mostCounted (own + 0)) (omega arith) (omega arith)
 
-pub page-counted : (watch : Watch) (used : ℕ) (mended : Mended) (isOpen : Bool) (stopped : Option Paper) → recordingWatched watch used mended isOpen stopped .mended ≤ mostCounted
+pub page-counted : (watch : Watch) (used : ℕ) (mended : Mended) (isOpen : Bool) (stopped : Option Paper) → recordingWatched watch used mended isOpen stopped .own ≤ mostCounted
 unfolding recordingWatched lineWatched
 page-counted watch used mended isOpen none = omega arith
 page-counted watch used mended isOpen (some answer) = closed-counted (linesPassed watch (used - 1) (without mended (broughtBy answer)) .own) answer

@@ -50,13 +50,13 @@ unfoldable pub isNumber : ℕ → Option ℕ → Bool
 isNumber number none = false
 isNumber number (some found) = eqb found number
 
--- what a line adds to the bytes mended in the page's own lines. A line that closes a page ends that page's count; where it is the header of the next sending, it
--- begins that one's
+-- the bytes mended in the page's own lines, after a line. A line that closes a page ends that page's count; where it is the header of the next sending, it begins
+-- that one's
 unfoldable pub ownAfter : ℕ → Paper → ℕ
 unfolding added broughtBy closingOf
 ownAfter own answer = cond (eqb (closingOf answer) 0) (added own (broughtBy answer .own)) (broughtBy answer .own)
 
--- and of the page that a line closes: what was counted before it
+-- and of the page that a line closes: what was counted before it, and never more than a count holds, whatever watch is handed in
 unfoldable pub ownClosed : ℕ → Paper → ℕ
 unfolding added closingOf
 ownClosed own answer = cond (eqb (closingOf answer) 0) 0 (added own 0)
@@ -82,7 +82,7 @@ lineWatched watch isOpen answer =
             own = ownAfter (watch .own) answer;
           };
       word = wordOf (watch .gap) (closingOf answer);
-      mended = ownClosed (watch .own) answer;
+      own = ownClosed (watch .own) answer;
     }
 
 -- so many lines that were taken and closed nothing, and the bytes mended in them
@@ -107,6 +107,6 @@ without all one = record { bytes = all .bytes - one .bytes; lines = all .lines -
 -- so many lines of a recording: all passed where it ended, and where it stopped all but the last, whose answer it stopped at
 unfoldable pub recordingWatched : Watch → ℕ → Mended → Bool → Option Paper → Watched
 unfolding linesPassed lineWatched without broughtBy
-recordingWatched watch used mended isOpen none = record { watch = linesPassed watch used mended; word = word.None; mended = 0 }
+recordingWatched watch used mended isOpen none = record { watch = linesPassed watch used mended; word = word.None; own = 0 }
 recordingWatched watch used mended isOpen (some answer) =
     lineWatched (linesPassed watch (used - 1) (without mended (broughtBy answer))) isOpen answer

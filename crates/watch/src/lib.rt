@@ -1,5 +1,5 @@
-// What whoever feeds lines keeps beside the receiver: whether a line was refused while the page was open, and how many lines there were. A page with such a
-// gap is not called clean, even where the receiver closes it so.
+// What whoever feeds lines keeps beside the receiver: whether a line was refused while the page was open, how many lines there were, and how many bytes were mended
+// in them. A page with such a gap is not called clean, even where the receiver closes it so.
 ghost use mathlib.Core.Bool.{cond, _&&_, _||_};
 ghost use mathlib.Core.Path.{_≡_};
 ghost use Prim.Native.Nat.{_-_};
@@ -45,7 +45,7 @@ pub struct Watch {
 pub struct Watched {
     pub watch: Watch,
     pub word: Word,
-    pub mended: u64,
+    pub own: u64,
 }
 
 // An answer's number, and the number of its closing word.
@@ -185,7 +185,7 @@ fn after_line(watch: Watch, is_open: bool, answer: Answer) -> Watched
     let closing = heard.closing;
     let more = receiver::mended_of(answer);
     let word = word_of(watch.gap, closing);
-    let mended = own_closed(watch.own, closing);
+    let own = own_closed(watch.own, closing);
     let after = Watch {
         gap: gap_after(watch.gap, is_open, number, closing),
         lines: added_to(watch.lines, 1),
@@ -199,7 +199,7 @@ fn after_line(watch: Watch, is_open: bool, answer: Answer) -> Watched
     Watched {
         watch: after,
         word,
-        mended,
+        own,
     }
 }
 
@@ -247,7 +247,7 @@ pub fn watch_recording(watch: Watch, recorded: Recorded) -> Watched
             Watched {
                 watch: all,
                 word: Word::None,
-                mended: 0,
+                own: 0,
             }
         }
         Played::Stopped(last) => {

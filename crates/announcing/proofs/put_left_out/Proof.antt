@@ -5,8 +5,8 @@ use mathlib.Core.List.{[], _++_, append-assoc}
 use Prim.Native.Nat.{_+_, _≤_}
 use native.Mathlib.Omega.{arith}
 use lib.ListN.{length, length-append}
+use Rattle.laws.specs.Text.{lineFeed}
 use Rattle.grid.specs.Grid.{rows}
-use Rattle.printing.specs.Pages.{lineFeed}
 use Rattle.texts.specs.Put.{Puts}
 use Rattle.announcing.specs.Told.{leftOutText, leftOutWords, olderRows}
 use Rattle.announcing.proofs.Lengths.{older-length}

@@ -4,8 +4,9 @@ use Prim.Native.Nat.{_+_}
 use native.Mathlib.Omega.{arith}
 use lib.ListN.{length}
 use borrow.Author.Needs.{needs}
+use Rattle.laws.specs.Text.{lineFeed}
 use Rattle.texts.specs.Decimal.{decimal, mostDigits}
-use Rattle.listing.specs.Lines.{endWord, lineFeed, endText}
+use Rattle.listing.specs.Lines.{endWord, endText}
 use Rattle.listing.proofs.Held.{Holds, starts, has-room, has-room-for, with-text, with-number, written}
 use Rattle.listing.proofs.end_line.Statement.{statement}
 use Rattle.listing.proofs.end_line.Tie as tie

@@ -4,8 +4,9 @@ use Prim.Native.Nat.{_+_}
 use native.Mathlib.Omega.{arith}
 use lib.ListN.{length}
 use borrow.Author.Needs.{needs}
+use Rattle.laws.specs.Text.{lineFeed}
 use Rattle.texts.specs.Decimal.{decimal, mostDigits}
-use Rattle.listing.specs.Lines.{refusedWord, atWord, lineFeed, refusedText}
+use Rattle.listing.specs.Lines.{refusedWord, atWord, refusedText}
 use Rattle.listing.proofs.Held.{Holds, has-room, has-room-for, with-text, with-number, refused-is, written}
 use Rattle.listing.proofs.refused_at_line.Statement.{statement}
 use Rattle.listing.proofs.refused_at_line.Tie as tie

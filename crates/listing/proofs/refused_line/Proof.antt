@@ -2,7 +2,8 @@
 use mathlib.Core.List.{append-assoc}
 use native.Mathlib.Omega.{arith}
 use borrow.Author.Needs.{needs}
-use Rattle.listing.specs.Lines.{lineFeed, refusedText}
+use Rattle.laws.specs.Text.{lineFeed}
+use Rattle.listing.specs.Lines.{refusedText}
 use Rattle.listing.proofs.Held.{has-room, with-text, refused-is, written}
 use Rattle.listing.proofs.refused_line.Statement.{statement}
 use Rattle.listing.proofs.refused_line.Tie as tie

@@ -4,7 +4,8 @@ use mathlib.Core.List.{_++_}
 use native.Mathlib.Omega.{arith}
 use borrow.Author.Needs.{needs}
 use lib.ListN.{length}
-use Rattle.listing.specs.Lines.{tooLongWord, lineFeed, tooLongText}
+use Rattle.laws.specs.Text.{lineFeed}
+use Rattle.listing.specs.Lines.{tooLongWord, tooLongText}
 use Rattle.listing.proofs.Held.{starts, has-room, with-text, written}
 use Rattle.listing.proofs.too_long_line.Statement.{statement}
 use Rattle.listing.proofs.too_long_line.Tie as tie

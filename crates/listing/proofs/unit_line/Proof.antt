@@ -3,8 +3,9 @@ use mathlib.Core.List.{[], _++_, append-assoc}
 use Prim.Native.Nat.{_+_, _*_}
 use native.Mathlib.Omega.{arith}
 use borrow.Author.Needs.{needs}
+use Rattle.laws.specs.Text.{lineFeed}
 use Rattle.texts.specs.Decimal.{decimal, mostDigits}
-use Rattle.listing.specs.Lines.{space, lineFeed, unitText}
+use Rattle.listing.specs.Lines.{space, unitText}
 use Rattle.listing.proofs.Held.{Holds, starts, has-room, has-room-for, with-text, with-number, written}
 use Rattle.listing.proofs.unit_line.Statement.{statement}
 use Rattle.listing.proofs.unit_line.Tie as tie
