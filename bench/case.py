@@ -1,8 +1,9 @@
 #!/usr/bin/env python3
-"""What the program `cost` is given for a piece of work: case.py WORK COUNT, with the way before the work where there are several.
+"""What the programs `cost` and `cost_pages` are given for a piece of work: case.py WORK COUNT, with the way before the work where there are several.
 
     lines: (value | lent | recording) (other | stored | opening | closing | pair) COUNT
     fields: search (15 | 30 | 60) COUNT      records: (write | read) page COUNT      pages: page (letters | controls | doubles | headlines) COUNT
+    pages printed: (ascii | english | german) (letters | controls | doubles | headlines | national) COUNT
     pages sent: send (every | none) COUNT, with every row from 1 to 23 or none of them
 
 The bytes come from the file `input` beside this script, and are no constants of the program, so that nothing is worked out beforehand: five pairs of data-lines, which
@@ -32,13 +33,14 @@ COLUMNS = 40
 LETTERS = INPUT[450:450 + COLUMNS]
 MOSAICS = INPUT[490:490 + COLUMNS]
 
-# A page of 24 rows of letters; of control codes and mosaics, without and with a 0D in each row, so that in the second every other row is a lower one; and of letters with
-# a double-height headline on rows 1, 3, and so on to 21.
+# A page of 24 rows of letters; of control codes and mosaics, without and with a 0D in each row, so that in the second every other row is a lower one; of letters with
+# a double-height headline on rows 1, 3, and so on to 21; and of one national code alone, in English an arrow of three bytes.
 PAGES = {
     "letters": 24 * LETTERS,
     "controls": 24 * MOSAICS.replace(b"\x0d", b"\x00"),
     "doubles": 24 * MOSAICS,
     "headlines": 11 * (LETTERS + b"\x0d" + LETTERS[1:]) + 2 * LETTERS,
+    "national": 24 * COLUMNS * b"[",
 }
 
 
@@ -68,6 +70,9 @@ def main(way, work, count):
         "read": lambda: framed(b"d", count, INPUT[3291:]),
         "send": lambda: framed(b"t", count, bytes([work == "every"]) + INPUT[3291:]),
         "page": lambda: framed(b"g", count, PAGES.get(work, b"")),
+        "ascii": lambda: framed(b"a", count, PAGES.get(work, b"")),
+        "english": lambda: framed(b"u", count, b"\x00\x00" + PAGES.get(work, b"")),
+        "german": lambda: framed(b"u", count, b"\x00\x01" + PAGES.get(work, b"")),
     }[way]()
 
 

@@ -3,6 +3,7 @@
 use crate::bits::*;
 use crate::display::{display, Cell, Height, Symbol};
 use crate::field::{list, search, unit_from, Found};
+use crate::national::{english_stands_in, letter, printed_page, value, LONGEST_TEXT};
 use crate::packet::{address, data_line_refusal, forty, header, packet_of_line, zero_header, Address};
 use crate::receiver::{new_receiver, receive_line, receive_line_lent, receive_packet, Answer, Receiver, CLOSED_NONE};
 use crate::record::{read_page, write_page};
@@ -30,6 +31,9 @@ pub fn answer(case: &Case) -> Vec<u8> {
         'g' => display_answer(x),
         'e' => protected_answer(x),
         'k' => packets_answer(x),
+        'i' => form_bytes(u32::from_be_bytes(filled(x))).to_vec(),
+        'c' => letter_answer(x),
+        'o' => text_answer(x),
         's' => selection_answer(x),
         'r' => run_answer(x, record),
         'w' => writer_answer(x, record),
@@ -224,6 +228,27 @@ fn packets_answer(x: &[u8]) -> Vec<u8> {
     let of_row = row_line(magazine, row, text);
     let of_header = header_line(magazine, &header_of(&x[2..10]), &text[8..]);
     [packet_of_line(&of_row), packet_of_line(&of_header)].concat()
+}
+
+/// Sort c.
+fn letter_answer(x: &[u8]) -> Vec<u8> {
+    let [_, _, code] = filled(x);
+    let control = control_of(x);
+    let letter = letter(control, code) as u32;
+    let mut out = vec![value(control) as u8, english_stands_in(control) as u8];
+    out.extend(letter.to_be_bytes());
+    out.extend(form_bytes(letter));
+    out
+}
+
+/// Sort o: the codes are only those that are there.
+fn text_answer(x: &[u8]) -> Vec<u8> {
+    let printed = printed_page(control_of(x), x.get(2..).unwrap_or_default());
+    let mut out = vec![printed.number, printed.stands_in as u8];
+    out.extend(two_bytes(printed.text.len()));
+    out.extend(printed.text.bytes());
+    out.resize(4 + LONGEST_TEXT, 0);
+    out
 }
 
 /// Sort t.

@@ -1,4 +1,4 @@
-//! Cases of sort g: pages of codes to be displayed.
+//! Cases of sort g: pages of codes to be displayed. Those of sort o are made of them too.
 
 use crate::random::Random;
 use crate::record::{CELLS, COLUMNS, ROWS};
@@ -200,8 +200,11 @@ pub fn lawful_page(i: u64, random: &mut Random) -> Vec<u8> {
     rows.concat()
 }
 
+/// How many manners of spoiling there are: eight lengths, and four places of a code past 7F, each twice.
+pub const SPOILINGS: u64 = 16;
+
 /// A page that is refused, for its length and for a code past 7F in turn.
-fn spoil(codes: &mut Vec<u8>, turn: u64, random: &mut Random) {
+pub fn spoil(codes: &mut Vec<u8>, turn: u64, random: &mut Random) {
     let lengths = [0, 961, 959, 40, 1000, 920, 1, 1920];
     let past = random.pick(&[0x80, 0xA0, 0xFF]);
     let any = random.below(CELLS as u64) as usize;

@@ -1,14 +1,16 @@
 //! The makers of cases, and how many cases each makes. A maker's letter is the sort that it makes, or, of the runs
-//! (sort r), the entry of their steps. Three letters are neither: e makes runs of lines one by one, and so h (for
-//! Hamming) makes sort e; c makes runs by all entries whose Hamming bytes are corrected.
+//! (sort r), the entry of their steps. Four letters are neither: e makes runs of lines one by one, and so h (for
+//! Hamming) makes sort e; c makes runs by all entries whose Hamming bytes are corrected, and so v (for the value of
+//! C12 to C14) makes sort c.
 
 use crate::random::Random;
 use crate::text::Case;
 use crate::{
-    case_fields, case_lines, case_mended, case_pages, case_receivers, case_records, case_sending, case_sequences,
+    case_fields, case_letters, case_lines, case_mended, case_pages, case_receivers, case_records, case_sending,
+    case_sequences,
 };
 
-pub const MAKERS: &str = "bnaslmpercwdfughkt";
+pub const MAKERS: &str = "bnaslmpercwdfughktivo";
 
 /// The share of each maker, in parts of the whole.
 fn weight(maker: char) -> u64 {
@@ -29,19 +31,33 @@ fn weight(maker: char) -> u64 {
         'g' => 121,
         'k' => 34,
         't' => 72,
+        'i' => 12,
+        'v' => 6,
+        'o' => 28,
         _ => 0,
     }
 }
 
-/// A page (sort g) counts as so many cases: its answer has 7,681 bytes, and it shows 24 rows at once. At COUNT 50000 some 330 are made, of 8,000 rows.
-const CASES_FOR_A_PAGE: u64 = 16;
+/// A page counts as so many cases, since it shows 24 rows at once and has a long answer: displayed (sort g) of 7,681
+/// bytes, as text (sort o) of 2,908. At COUNT 50000 some 310 and 140 are made, of 7,500 and 3,500 rows.
+fn cases_for_one(maker: char) -> u64 {
+    match maker {
+        'g' => 16,
+        'o' => 8,
+        _ => 1,
+    }
+}
 
-/// How many cases a maker makes whatever COUNT is: every byte, and the runs and the pages sent that are counted out.
+/// How many cases a maker makes whatever COUNT is: every byte, and what is counted out of the runs, the pages sent,
+/// the numbers, the letters and the pages as text.
 fn always(maker: char) -> u64 {
     match maker {
         'b' | 'h' => 256,
         'c' => case_mended::counted_out(),
         't' => case_sending::counted_out(),
+        'i' => case_letters::numbers_counted_out(),
+        'v' => case_letters::codes_counted_out(),
+        'o' => case_letters::pages_counted_out(),
         _ => 0,
     }
 }
@@ -52,8 +68,7 @@ pub fn share(maker: char, count: u64, makers: &str) -> u64 {
         return always(maker);
     }
     let whole: u64 = MAKERS.chars().filter(|m| makers.contains(*m)).map(weight).sum();
-    let for_one = if maker == 'g' { CASES_FOR_A_PAGE } else { 1 };
-    always(maker) + std::cmp::max(1, count * weight(maker) / whole / for_one)
+    always(maker) + std::cmp::max(1, count * weight(maker) / whole / cases_for_one(maker))
 }
 
 /// The case with this number among those of its maker.
@@ -74,6 +89,9 @@ pub fn case(maker: char, i: u64, random: &mut Random) -> Case {
         'h' => Case::alone('e', vec![i as u8]),
         'k' => Case::alone('k', case_sending::packets_to_make(i, random)),
         't' => case_sending::page_sent(i, random),
+        'i' => Case::alone('i', case_letters::number(i, random)),
+        'v' => Case::alone('c', case_letters::code(i, random)),
+        'o' => Case::alone('o', case_letters::page_as_text(i, random)),
         _ => panic!("no such maker"),
     }
 }

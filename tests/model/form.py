@@ -7,7 +7,7 @@ import sys
 ROOT = os.path.dirname(os.path.dirname(os.path.dirname(os.path.abspath(__file__))))
 
 # Which program answers which sorts, in the order of FORMAT.md.
-PROGRAMS = {"decode": "bnafugek", "replay": "srwdt"}
+PROGRAMS = {"decode": "bnafugekico", "replay": "srwdt"}
 SORTS = "".join(PROGRAMS.values())
 
 # A case: its sort, and its parts as bytes: the input and, for `replay`, the record (for sort t the room) that is lent.
@@ -17,6 +17,9 @@ ROWS = 24
 COLUMNS = 40
 CELLS = ROWS * COLUMNS
 STEP = 3
+
+# The longest text of a page: forty letters of three bytes and a line feed in each row.
+TEXT = ROWS * (3 * COLUMNS + 1)
 
 # The parts of inputs and answers, each with its length in bytes.
 SELECTION = [("magazine, tens, units", 3), ("timed, hours, minutes", 5)]
@@ -28,6 +31,9 @@ ANSWER = [("number", 1), ("kind", 1), ("count", 1), ("closing", 1), ("mended", 1
 MENDED = [("bytes mended", 2), ("lines with one or more", 2), ("bytes mended in the page's own lines", 2)]
 NUMBER = [("number", 1)]
 WANTED = [("rows wanted", ROWS - 1)]
+CONTROL = [("control bits", 2)]
+FORM = [("count of bytes", 1), ("UTF-8 form", 4)]
+STANDS_IN = [("English stands in", 1)]
 
 
 def size(parts):
@@ -68,14 +74,17 @@ def steps_of(case):
 def input_parts(case):
     """The parts of a case's input and of its record, each a name and bytes."""
     place, numbers = [("place", 8)], [("magazine", 1), ("row", 1)] + HEADER
-    first = {"f": place, "u": place, "k": numbers, "s": SELECTION, "r": RECEIVER, "w": PAGE, "t": WANTED}.get(case.sort, [])
+    first = {
+        "f": place, "u": place, "k": numbers, "i": [("number", 4)], "c": CONTROL + [("code", 1)], "o": CONTROL,
+        "s": SELECTION, "r": RECEIVER, "w": PAGE, "t": WANTED,
+    }.get(case.sort, [])
     found, at = [], 0
     for name, length in first:
         found.append((name, case.parts[0][at:at + length]))
         at += length
     if case.sort == "r":
         return found + [(f"step {n}, entry {entry}", data) for n, (entry, data) in enumerate(steps_of(case))] + [("record", case.parts[1])]
-    rest = {"g": "codes", "k": "characters", "t": "record"}.get(case.sort, "the rest")
+    rest = {"g": "codes", "k": "characters", "o": "codes", "t": "record"}.get(case.sort, "the rest")
     lent = "room" if case.sort == "t" else "record"
     return found + [(rest, case.parts[0][at:])] + [(lent, part) for part in case.parts[1:]]
 
@@ -97,6 +106,9 @@ def answer_parts(case):
         "g": NUMBER + [(f"row {row}, cell {column}", 8) for row in range(ROWS) for column in range(COLUMNS)],
         "e": [("Hamming byte", 1), ("character byte", 1)],
         "k": [("row: address", 2), ("row: text", COLUMNS), ("header: address", 2), ("header: messages", 8), ("header: text", COLUMNS - 8)],
+        "i": FORM,
+        "c": [("value", 1)] + STANDS_IN + [("letter", 4)] + FORM,
+        "o": NUMBER + STANDS_IN + [("bytes of the text", 2), ("text", TEXT)],
         "s": NUMBER + RECEIVER,
         "w": NUMBER + record,
         "d": NUMBER + PAGE,

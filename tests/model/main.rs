@@ -1,17 +1,19 @@
-//! An independent model of document 01 and of requests 1, 2 and 3 of document 02: prints seeded cases,
-//! each with the answer expected.
+//! An independent model of document 01 and of requests 1 to 4 of document 02: prints seeded cases, each
+//! with the answer expected.
 //!
-//! `model SEED COUNT [MAKERS]` prints about COUNT cases, of which a page to be displayed counts as
-//! several, shared out over the makers asked for (all where none are named), and besides them those
+//! `model SEED COUNT [MAKERS]` prints about COUNT cases, of which a page to be displayed or printed counts
+//! as several, shared out over the makers asked for (all where none are named), and besides them those
 //! that are always made: a case line, then "= " and its answer, as FORMAT.md has them. `model marked`
 //! checks the marked cases. `model demand SEED COUNT` checks the two laws on clean closings over
 //! random runs, `model double SEED COUNT` those on double height over random pages, `model sending
 //! SEED COUNT` those on pages sent and received again, `model mended SEED COUNT` those on mended bytes
-//! over all bytes and over random runs.
+//! over all bytes and over random runs, `model letters SEED COUNT` those on national letters over all
+//! letters, control bits and numbers and over random pages.
 
 mod answers;
 mod bits;
 mod case_fields;
+mod case_letters;
 mod case_lines;
 mod case_mended;
 mod case_pages;
@@ -26,8 +28,10 @@ mod double;
 mod examined;
 mod field;
 mod laws;
+mod letters;
 mod marked;
 mod mended;
+mod national;
 mod packet;
 mod random;
 mod receiver;
@@ -39,6 +43,9 @@ mod text;
 mod transmission;
 
 use std::io::{BufWriter, Write};
+
+/// The words that the program takes.
+const USAGE: &str = "model SEED COUNT [MAKERS] | model marked | model demand|double|sending|mended|letters SEED COUNT";
 
 /// A number from the command line.
 fn number(word: &str) -> u64 {
@@ -67,8 +74,9 @@ fn main() {
         ["double", seed, count] => double::print(number(seed), number(count)),
         ["sending", seed, count] => sending::print(number(seed), number(count)),
         ["mended", seed, count] => mended::print(number(seed), number(count)),
+        ["letters", seed, count] => letters::print(number(seed), number(count)),
         [seed, count] => print_cases(number(seed), number(count), cases::MAKERS),
         [seed, count, makers] => print_cases(number(seed), number(count), makers),
-        _ => println!("model SEED COUNT [MAKERS] | model marked | model demand|double|sending|mended SEED COUNT"),
+        _ => println!("{}", USAGE),
     }
 }

@@ -60,6 +60,11 @@ pub fn of_two_bytes(bytes: &[u8]) -> usize {
     bytes[0] as usize * 256 + bytes[1] as usize
 }
 
+/// The first bytes of an input: what is not there is read as zeros.
+pub fn filled<const COUNT: usize>(x: &[u8]) -> [u8; COUNT] {
+    std::array::from_fn(|place| x.get(place).copied().unwrap_or(0))
+}
+
 /// SELECTION, 8 bytes.
 pub fn selection_bytes(selection: &Selection) -> Vec<u8> {
     let mut out = vec![selection.magazine, selection.tens, selection.units];
@@ -165,6 +170,20 @@ pub fn answer_bytes(a: &Answer) -> [u8; 5] {
 /// MENDED, 6 bytes: three numbers of two bytes.
 pub fn mended_bytes(mended: &Mended) -> Vec<u8> {
     [mended.bytes, mended.lines, mended.own].map(two_bytes).concat()
+}
+
+/// CONTROL back, of the first two bytes.
+pub fn control_of(x: &[u8]) -> u16 {
+    u16::from_be_bytes(filled(x))
+}
+
+/// FORM, 5 bytes: the language's own UTF-8 form, and its own word on which numbers have none.
+pub fn form_bytes(number: u32) -> [u8; 5] {
+    let mut out = [0; 5];
+    if let Some(letter) = char::from_u32(number) {
+        out[0] = letter.encode_utf8(&mut out[1..]).len() as u8;
+    }
+    out
 }
 
 /// A step of a run: its entry, its length in two bytes, and its bytes.

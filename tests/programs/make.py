@@ -1,12 +1,19 @@
 #!/usr/bin/env python3
-"""Cases for the two programs, written from document 01, "Programs", and request 1 of document 02 by a small model of its own: what a field's units
-are, how a record is packed, and what each cell of a page prints. Nothing here is taken from the project's code.
+"""Cases for three programs, written from document 01, "Programs", and requests 1 and 4 of document 02 by a small model of its own: what a field's units
+are, how a record is packed, what each cell of a page prints, and with which letters. Nothing here is taken from the project's code.
 
-  make.py FOLDER           write FOLDER/units/*.in, *.out and FOLDER/printer/*.in, *.out
-  make.py FOLDER --small   the same without the inputs of more than 4,096 bytes, as they are kept beside this file"""
+  make.py FOLDER            write FOLDER/units/*.in, *.out, FOLDER/printer/*.in, *.out and FOLDER/printer_utf8/*.in, *.out, *.err
+  make.py FOLDER --small    what is kept beside this file: the same without the inputs of more than 4,096 bytes, and of printer_utf8 only its own
+                            pages, as all those of printer are kept once already
+  make.py FOLDER --stored   write FOLDER/printer_utf8/stdin and stdout, as they are kept in crates
+
+An .in is a case's input, .out what must be on standard output, and .err what must be on standard error, mostly nothing."""
 import random
 import sys
 from pathlib import Path
+
+sys.path.insert(0, str(Path(__file__).resolve().parent.parent / "published"))
+import letters
 
 SMALL = 4096
 
@@ -273,25 +280,153 @@ def pages():
         yield f"drawn_{seed:02}", page
 
 
-def records():
-    for name, page in pages():
-        yield name, page.record(), printing(page)
+def wrong_lengths():
+    """Records that are refused by 20, whatever they hold."""
     good = Page().put(1, "text").record()
-    for name, record in (("empty", b""), ("one_byte", good[:1]), ("1084_bytes", good[:-1]), ("1086_bytes", good + b"\0"), ("2170_bytes", good + good),
-                         ("20_before_21", Page(zero=15).record() + b"\0"), ("100000_bytes", bytes(100000))):
-        yield name, record, "refused 20\n"
+    yield "empty", b""
+    yield "one_byte", good[:1]
+    yield "1084_bytes", good[:-1]
+    yield "1086_bytes", good + b"\0"
+    yield "2170_bytes", good + good
+    yield "20_before_21", Page(zero=15).record() + b"\0"
+    yield "100000_bytes", bytes(100000)
+
+
+# ---- the page printer with national letters
+
+THIRTEEN = letters.CODES
+GERMAN, NO_SET = 1, letters.NO_SET
+
+# C4 to C14 are a number of 11 bits with C4 the most significant: C12 to C14 are its last three bits, and the value of the set.
+OTHER_BITS = 0b11111111000
+
+
+def value_of(page):
+    return page.head["control"] % 8
+
+
+def national_printing(page):
+    """The lines of `printer`, with the letters of the page's own set. Question mark, space and line feed are none of the thirteen codes, so that they stay."""
+    return printing(page) if page.refused() else letters.text(value_of(page), printing(page).encode("ascii"))
+
+
+def stand_in(page):
+    """What must be on standard error. Of a page that is refused no letter is printed, and nothing stands in."""
+    said = letters.stands_in(value_of(page)) and not page.refused()
+    return f"English stands in for letter set {value_of(page)}\n" if said else ""
+
+
+def every_letter(value):
+    """All codes from 20 to 7F in letters and among mosaics; the thirteen in the header, in headlines, concealed, older and beside held mosaics."""
+    page = Page(control=value).put(0, THIRTEEN)
+    page.put(1, range(0x20, 0x48)).put(2, range(0x48, 0x70)).put(3, range(0x70, 0x80))
+    page.put(5, [0x11, *range(0x20, 0x47)]).put(6, [0x12, *range(0x47, 0x6E)]).put(7, [0x13, *range(0x6E, 0x80)])
+    # The row below is hidden: under the double letters these are printed again, and under the others a space.
+    page.put(9, [0x0D, *THIRTEEN, 0x0C, *THIRTEEN]).put(10, THIRTEEN * 3)
+    page.put(12, [0x11, 0x0D, *THIRTEEN]).put(13, THIRTEEN * 3)
+    page.put(15, [0x18, *THIRTEEN, 0x07, *THIRTEEN])
+    page.put(17, THIRTEEN, OLDER)
+    page.put(19, [0x11, 0x35, 0x1E, 0x5B, 0x12, 0x5D, 0x1F, 0x14, 0x40])
+    return page.put(23, THIRTEEN * 3)
+
+
+def filled_with(codes, **parts):
+    """A page with these codes again and again, wherever a record may have letters."""
+    page = Page(**parts)
+    for row in range(24):
+        page.put(row, codes * 40)
+    return page
+
+
+def german(text):
+    return bytes(letters.code(GERMAN, letter) for letter in text)
+
+
+def appeal():
+    """The page that is kept as the program's example: an appeal in German, of an invented charity."""
+    page = Page(magazine=2, units=1, hours_tens=1, hours_units=2, minutes_units=3, control=GERMAN)
+    page.put(0, german("P201  Sa 14. März  12:03"))
+    page.put(1, b"\x03\x0D" + german("FREUNDE DER ALTEN MÜHLE"))
+    page.put(3, b"\x07" + german("Ein erfundener Verein als Beispiel."))
+    page.put(5, german("Die Mühle braucht ein größeres Rad."))
+    page.put(6, german("Äpfel und Öl gibt es zum Dank."))
+    page.put(9, b"\x06" + german("Bitte diese Nummer angeben:"))
+    page.put(10, b"\x03" + german("MÜHLE 2201 5566"))
+    return page.put(20, b"\x14" + german("pppMÜHLEppp"))
+
+
+def national_pages():
+    yield "appeal", appeal()
+    for value in range(8):
+        yield f"every_letter_{value}", every_letter(value)
+    for value in range(8):
+        yield f"other_bits_{value}", Page(control=OTHER_BITS + value).put(4, THIRTEEN)
+    for number in range(4, 12):
+        yield f"c{number}_alone", Page(control=1 << 14 - number).put(4, THIRTEEN)
+    # Three bytes are the most that a letter has: the arrows, the dash and the double bar of the English set.
+    yield "longest", filled_with([0x5B])
+    yield "longest_stand_in", filled_with([0x5B, 0x5D, 0x5E, 0x60, 0x7C], control=NO_SET)
+    # That English stands in goes by the value alone: no letter need show it, and the page need not be clean.
+    yield "stand_in_spaces", Page(control=NO_SET)
+    yield "stand_in_not_clean", Page(control=NO_SET, clean=0).put(4, THIRTEEN, OLDER)
+    yield "no_set_refused_21", Page(control=NO_SET, zero=1).put(4, THIRTEEN)
+    yield "no_set_refused_22", Page(control=NO_SET, units=10).put(4, THIRTEEN)
+    yield "no_set_refused_23", Page(control=NO_SET).put(4, THIRTEEN).cell(23, 39, 3, 0x23)
+
+
+def national_wrong_lengths():
+    good = Page(control=NO_SET).put(4, THIRTEEN).record()
+    yield "no_set_1084_bytes", good[:-1]
+    yield "no_set_1086_bytes", good + b"\0"
+
+
+# ---- the cases: name, input, and the texts expected by the endings of their files
+
+REFUSED_20 = "refused 20\n"
+
+
+def unit_cases():
+    for name, field in fields():
+        yield name, field, {"out": listing(field)}
+
+
+def printer_cases():
+    for name, page in pages():
+        yield name, page.record(), {"out": printing(page)}
+    for name, record in wrong_lengths():
+        yield name, record, {"out": REFUSED_20}
+
+
+def utf8_cases(some_pages, some_records):
+    for name, page in some_pages:
+        yield name, page.record(), {"out": national_printing(page), "err": stand_in(page)}
+    for name, record in some_records:
+        yield name, record, {"out": REFUSED_20, "err": ""}
+
+
+def write_cases(folder, cases):
+    folder.mkdir(parents=True, exist_ok=True)
+    for name, given, texts in cases:
+        (folder / f"{name}.in").write_bytes(given)
+        for ending, text in texts.items():
+            (folder / f"{name}.{ending}").write_bytes(text.encode("utf-8"))
+
+
+def write_stored(folder):
+    folder.mkdir(parents=True, exist_ok=True)
+    (folder / "stdin").write_bytes(appeal().record())
+    (folder / "stdout").write_bytes(national_printing(appeal()).encode("utf-8"))
 
 
 def main():
     folder, small = Path(sys.argv[1]), "--small" in sys.argv[2:]
-    cases = {"units": ((name, field, listing(field)) for name, field in fields()), "printer": records()}
-    for program, made in cases.items():
-        (folder / program).mkdir(parents=True, exist_ok=True)
-        for name, given, text in made:
-            if small and len(given) > SMALL:
-                continue
-            (folder / program / f"{name}.in").write_bytes(given)
-            (folder / program / f"{name}.out").write_bytes(text.encode("ascii"))
+    if "--stored" in sys.argv[2:]:
+        write_stored(folder / "printer_utf8")
+        return
+    own, printers = utf8_cases(national_pages(), national_wrong_lengths()), utf8_cases(pages(), wrong_lengths())
+    made = {"units": unit_cases(), "printer": printer_cases(), "printer_utf8": own if small else (*printers, *own)}
+    for program, cases in made.items():
+        write_cases(folder / program, (case for case in cases if not small or len(case[1]) <= SMALL))
 
 
 main()

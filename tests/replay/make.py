@@ -4,7 +4,7 @@
     make.py PROGRAM stdin      crates/PROGRAM/stdin
     make.py PROGRAM stdout     what it must write: crates/PROGRAM/stdout
 
-Cases and answers are put together from pieces in hexadecimal, worked out by hand from document 01 and requests 1, 2 and 3 of document 02: nothing here computes an
+Cases and answers are put together from pieces in hexadecimal, worked out by hand from document 01 and requests 1 to 4 of document 02: nothing here computes an
 answer.
 """
 import os
@@ -69,6 +69,14 @@ SHOWN = 40 * "20" + HELD + 40 * "20" + HEADLINE + 40 * "41" + 19 * 40 * "20"
 SHOWN_CELLS = BLANK_ROW + HELD_ROW + BLANK_ROW + UPPER_ROW + LOWER_ROW + 19 * BLANK_ROW
 STEP_L, STEP_M, STEP_P, STEP_R = (letter.encode().hex() for letter in "lmpr")
 
+# A page with 5B at the start of row 1, in German A with two dots, and a headline of 5D on row 3, in German U with two dots and in English arrows, which is printed again below. A line is forty letters and a line
+# feed; a page's text is held in 2,904 bytes.
+NATIONAL = 40 * "20" + "5b" + 79 * "20" + "0d" + 39 * "5d" + 20 * 40 * "20"
+BLANK_LINE = 40 * "20" + "0a"
+GERMAN_TEXT = BLANK_LINE + "c384" + 39 * "20" + "0a" + BLANK_LINE + 2 * ("20" + 39 * "c39c" + "0a") + 19 * BLANK_LINE
+ENGLISH_TEXT = BLANK_LINE + "e28690" + 39 * "20" + "0a" + BLANK_LINE + 2 * ("20" + 39 * "e28692" + "0a") + 19 * BLANK_LINE
+GERMAN_LENGTH, ENGLISH_LENGTH = 24 * 41 + 1 + 2 * 39, 24 * 41 + 2 + 2 * 2 * 39
+
 # Forty characters of a packet that is sent: eight letters A (41, with its parity C1, end for end 83) and spaces. A header of page 12 at 34:56 with C4, C5, C7 and C14:
 # its messages are 2, 1, 6, 13, 4, 7, 1 and 8, sent as 49 02 38 B6 64 2F 02 D0. The packets of row 23 of magazine 8 and of its row 0, which has no letter A.
 LETTERS = 8 * "41" + 32 * "20"
@@ -101,6 +109,18 @@ CASES = {
         ("e", "00", None, "15 80"),
         ("e", "ff", None, "ea 7f"),
         ("k", "08" + "17" + TIMED + LETTERS, None, ROW_23 + TIMED_HEADER),
+        # An arrow, the last number of all, and the first surrogate, which has no form.
+        ("i", "00002190", None, "03 e2869000"),
+        ("i", "0010ffff", None, "04 f48fbfbf"),
+        ("i", "0000d800", None, "00 00000000"),
+        # The English pound sign, the German number sign, and 7E where English stands in, with all other control bits.
+        ("c", "0000" + "23", None, "00 00 000000a3 02 c2a30000"),
+        ("c", "0001" + "23", None, "01 00 00000023 01 23000000"),
+        ("c", "07ff" + "7e", None, "07 01 000000f7 02 c3b70000"),
+        ("o", "0001" + NATIONAL, None, "00 00" + f"{GERMAN_LENGTH:04x}" + GERMAN_TEXT + (2904 - GERMAN_LENGTH) * "00"),
+        ("o", "0007" + NATIONAL, None, "00 01" + f"{ENGLISH_LENGTH:04x}" + ENGLISH_TEXT + (2904 - ENGLISH_LENGTH) * "00"),
+        # A code less than a page has: nothing is said of its letters.
+        ("o", "0007" + 959 * "20", None, "19" + 2907 * "00"),
         ("x", "", None, "ff"),
     ],
     "replay": [

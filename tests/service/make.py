@@ -5,11 +5,16 @@
     python3 make.py lost > lost
 
 What is sent, and with which damage, stands in plan.py; here it becomes bytes.
+Which code shows which letter stands in tests/published/letters.py.
 """
 
+import os
 import sys
 
 from plan import EARLIER, LOST, MAGAZINE_1, MAGAZINE_2, MAGAZINE_3, TEXTS
+
+sys.path.insert(0, os.path.join(os.path.dirname(os.path.abspath(__file__)), "..", "published"))
+import letters
 
 # ------------------------------------------------------------ codes of cells
 
@@ -22,15 +27,15 @@ for number, colour in enumerate(COLOURS, start=1):
     CODES["mosaic " + colour] = 0x10 + number
 
 
-def cells(text, width):
-    """The codes of a text, filled up with spaces."""
+def cells(text, width, letter_set):
+    """The codes of a text in a letter set, filled up with spaces."""
     codes = []
     while text:
         if text[0] == "{":
             name, text = text[1:].split("}", 1)
             codes.append(CODES[name])
         else:
-            codes.append(ord(text[0]))
+            codes.append(letters.code(letter_set, text[0]))
             text = text[1:]
     assert len(codes) <= width, "a row is too long"
     return codes + [0x20] * (width - len(codes))
@@ -62,17 +67,24 @@ def address(magazine, row):
     return hamming([magazine % 8 + 8 * (row % 2), row // 2])
 
 
-def header(magazine, page, time, erase):
+def c11_to_c14(letter_set):
+    """The message goes lowest weight first, a letter set the other way: it is
+    4 * C12 + 2 * C13 + C14. C11 is 0, as the magazines are sent in parallel."""
+    c12, c13, c14 = letter_set // 4, letter_set // 2 % 2, letter_set % 2
+    return 2 * c12 + 4 * c13 + 8 * c14
+
+
+def header(magazine, page, time, erase, letter_set):
     hours_tens, hours, minutes_tens, minutes = (int(d) for d in time if d != ":")
     tens, units = int(page[1], 16), int(page[2], 16)
-    # All of C5 to C14 are 0; C11 too, as the magazines are sent in parallel.
-    numbers = [units, tens, minutes, minutes_tens + 8 * erase, hours, hours_tens, 0, 0]
+    # All of C5 to C10 are 0.
+    numbers = [units, tens, minutes, minutes_tens + 8 * erase, hours, hours_tens, 0, c11_to_c14(letter_set)]
     text = f"LANTERNTEXT {page} Sat 14 Mar {time}"
-    return address(magazine, 0) + hamming(numbers) + odd(cells(text, 32))
+    return address(magazine, 0) + hamming(numbers) + odd(cells(text, 32, letter_set))
 
 
-def row(magazine, number, text):
-    return address(magazine, number) + odd(cells(text, 40))
+def row(magazine, number, text, letter_set):
+    return address(magazine, number) + odd(cells(text, 40, letter_set))
 
 
 def links(magazine):
@@ -117,19 +129,29 @@ def entries(plan):
             yield what, damage
 
 
-def packets(magazine, what):
-    words = what.replace(",", "").split()
+def set_named(words):
+    """The letter set that a page's words name, 0 where they name none."""
+    return int(words[words.index("set") + 1]) if "set" in words else 0
+
+
+def packets(magazine, words, letter_set):
     if words[0] == "links":
         return [links(magazine)]
     if words[0] == "page":
-        return [header(magazine, words[1], words[3], "erase" in words)]
+        return [header(magazine, words[1], words[3], "erase" in words, letter_set)]
     numbers, text = words[1:-2], TEXTS[words[-1]]
-    return [row(magazine, int(number), text[int(number)]) for number in numbers]
+    return [row(magazine, int(number), text[int(number)], letter_set) for number in numbers]
 
 
 def lines(magazine, plan):
+    """The lines of a plan. A row has the letter set of the page sent before it."""
+    letter_set, sets = 0, {}
     for what, damage in entries(plan):
-        for packet in packets(magazine, what):
+        words = what.replace(",", "").split()
+        if words[0] == "page":
+            letter_set = set_named(words)
+            assert sets.setdefault(words[1], letter_set) == letter_set, f"page {words[1]} has two letter sets"
+        for packet in packets(magazine, words, letter_set):
             sent = line(packet)
             if damage:
                 spoil(sent, damage)

@@ -10,16 +10,17 @@ use Rattle.laws.specs.Text.{lineFeed}
 use Rattle.laws.proofs.Keeps.{either}
 use Rattle.page.specs.Reading.{pageRead}
 use Rattle.page.specs.Records.{recordLength}
+use Rattle.page.specs.declared.Cells.{Cells}
 use Rattle.page.specs.declared.Page.{Page}
-use Rattle.printing.specs.Pages.{pageSize, pageText}
-use Rattle.printing.proofs.Pages.{page-most}
-use Rattle.tally.specs.Tally.{mendedSize, mendedText}
-use Rattle.tally.proofs.Tallying.{mended-length}
+use Rattle.printing.specs.Letters.{utf8PageSize, utf8PageText}
+use Rattle.printing.proofs.Back.{utf8-most}
+use Rattle.heading.proofs.Words.{line-length}
 use Rattle.watch.specs.declared.Word.{Word}
 use Rattle.watch.specs.declared.Word.the-variants as word
-use Rattle.announcing.specs.Private.{cellsSaid}
-use Rattle.announcing.specs.Said.{headingSize, leftOutSize, longest}
-use Rattle.announcing.specs.Told.{announced, cleanText, doubtText, freshCharacters, headingText, leftOutText, leftOutWords, lineText, missingText, olderRows, oneOlder, pageSaid, rowNumber}
+use Rattle.announcing.specs.Private.{Printable}
+use Rattle.announcing.specs.Said.{leftOutSize, longest}
+use Rattle.announcing.specs.Told.{announced, cellsText, freshCharacters, leftOutText, leftOutWords, olderRows, oneOlder, pageLine, pageSaid, rowNumber}
+use Rattle.announcing.proofs.Fresh.{printable-read}
 
 abbrev AtMost : ℕ → List ℕ → Type 0
 AtMost most text = length text ≤ most
@@ -48,33 +49,27 @@ left-out-length marks =
 
 -- ---- all that is said of a page
 
-module _ (page : Page) (mended : ℕ) (counted : mended < 2 ^ 64) where
-  pub line-length : (word : List ℕ) → length (lineText page word mended) ≤ headingSize + (length word + mendedSize)
-  unfolding lineText headingText
-  line-length word =
-      let line = length-append (headingText (page .magazine) (page .header)) (word ++ mendedText mended) in
-      let both = length-append word (mendedText mended) in
-      let text = mended-length mended counted in
-      omega arith
+cells-length : (control : ℕ) (cells : Cells) → Printable cells → length (cellsText control cells) ≤ leftOutSize + utf8PageSize
+unfolding cellsText
+cells-length control cells printable =
+    let rows-out = left-out-length (cells .marks) in
+    let text = utf8-most control (freshCharacters cells) (printable .shown) in
+    let both = length-append (leftOutText (cells .marks)) (utf8PageText control (freshCharacters cells)) in
+    omega arith
 
-  cells-length : length (cellsSaid (page .cells)) ≤ leftOutSize + pageSize
-  cells-length =
-      let rows-out = left-out-length (page .cells .marks) in
-      let text = page-most (freshCharacters (page .cells)) in
-      let both = length-append (leftOutText (page .cells .marks)) (pageText (freshCharacters (page .cells))) in
-      omega arith
-
-  said-length : (which : Word) → length (pageSaid which mended page) ≤ longest
-  unfolding pageSaid
-  said-length word.None = omega arith
-  said-length word.Clean =
-      let cells = cells-length in
-      let line = line-length cleanText in
-      let both = length-append (lineText page cleanText mended) (cellsSaid (page .cells)) in
-      omega arith
-  said-length word.Doubt = let line = line-length doubtText in omega arith
-  said-length word.Missing = let line = line-length missingText in omega arith
+said-length : (page : Page) → Printable (page .cells) → (mended : ℕ) → mended < 2 ^ 64 → (which : Word) → length (pageSaid which mended page) ≤ longest
+unfolding pageSaid
+said-length page printable mended counted word.None = omega arith
+said-length page printable mended counted word.Clean =
+    let cells = cells-length (page .header .control) (page .cells) printable in
+    let line = line-length word.Clean (page .magazine) (page .header) mended counted in
+    let both = length-append (pageLine word.Clean mended page) (cellsText (page .header .control) (page .cells)) in
+    omega arith
+said-length page printable mended counted word.Doubt = let line = line-length word.Doubt (page .magazine) (page .header) mended counted in omega arith
+said-length page printable mended counted word.Missing = let line = line-length word.Missing (page .magazine) (page .header) mended counted in omega arith
 
 pub announced-length : (which : Word) (mended : ℕ) → mended < 2 ^ 64 → (lent : List ℕ) → length (announced which mended lent) ≤ longest
 unfolding announced
-announced-length which mended counted lent = said-length (pageRead (take recordLength lent)) mended counted which
+announced-length which mended counted lent =
+    let bytes = take recordLength lent in
+    said-length (pageRead bytes) (printable-read bytes) mended counted which

@@ -8,13 +8,12 @@ use Rattle.grid.specs.Grid.{cellCount}
 use Rattle.packet.specs.Lines.{lineLength}
 use Rattle.page.specs.declared.Cells.{Cells}
 use Rattle.display.specs.Pages.{isPage}
-use Rattle.printing.specs.Pages.{pageText}
 use Rattle.receiver.specs.Recordings.{Playing, played}
 use Rattle.watch.specs.Watched.{recordingWatched}
 use Rattle.watch.specs.declared.Watched.{Watched}
 use Rattle.texts.specs.Put.{Puts}
 use Rattle.announcing.specs.Said.{Saying}
-use Rattle.announcing.specs.Told.{announced, freshCharacters, leftOutText}
+use Rattle.announcing.specs.Told.{announced, freshCharacters}
 use Rattle.announcing.specs.declared.Announced.{Announced}
 
 -- cells as many as a page has
@@ -25,10 +24,6 @@ Whole cells = (length (cells .characters) ≡ cellCount) × (length (cells .mark
 pub record Printable (cells : Cells) : Type 0 where
   pub whole : Whole cells
   pub shown : isPage (freshCharacters cells) ≡ true
-
--- what is said of a clean page behind its line
-abbrev pub cellsSaid : Cells → List ℕ
-cellsSaid cells = leftOutText (cells .marks) ++ pageText (freshCharacters cells)
 
 -- what playing some lines to the next stop leaves and says
 unfoldable pub stopSaid : Saying → List ℕ → Saying

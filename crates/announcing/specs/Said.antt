@@ -8,15 +8,16 @@ use lib.Dec.{eqb}
 use lib.ListN.{length, take, drop}
 use Rattle.grid.specs.Grid.{rows}
 use Rattle.packet.specs.Lines.{lineLength}
-use Rattle.printing.specs.Pages.{pageSize}
+use Rattle.printing.specs.Letters.{utf8PageSize}
 use Rattle.receiver.specs.Entries.{Entered, lineEntered}
 use Rattle.receiver.specs.declared.Receiver.{Receiver}
-use Rattle.tally.specs.Tally.{mendedSize, shareHeld}
+use Rattle.tally.specs.Tally.{shareHeld}
 use Rattle.tally.specs.declared.ShareText.{ShareText}
+use Rattle.heading.specs.Line.{lineSize}
 use Rattle.watch.specs.Watched.{lineWatched}
 use Rattle.watch.specs.declared.Watch.{Watch}
 use Rattle.watch.specs.declared.Watched.{Watched}
-use Rattle.announcing.specs.Told.{announced, cleanText, leftOutWords}
+use Rattle.announcing.specs.Told.{announced, leftOutWords}
 use Rattle.announcing.specs.declared.Announced.{Announced}
 
 -- between two lines: the receiver, the watch beside it and the lent record, and what was said so far
@@ -56,16 +57,13 @@ shareSaid watch = shareHeld (watch .mended) (watch .«mended_lines») (watch .li
 
 -- ---- what one call does
 
--- "page 100 at 12:34:", and the most that the line of rows left out can take: three bytes for each row
-abbrev pub headingSize : ℕ
-headingSize = 18
-
+-- the most that the line of rows left out can take: three bytes for each row
 abbrev pub leftOutSize : ℕ
 leftOutSize = length leftOutWords + 3 * rows + 1
 
 -- the most that is said of a line, which is of a clean page
 abbrev pub longest : ℕ
-longest = headingSize + length cleanText + mendedSize + leftOutSize + pageSize
+longest = lineSize + leftOutSize + utf8PageSize
 
 -- the lines that a room has room for, whatever is said of them
 unfoldable pub fitting : List ℕ → List ℕ → List ℕ

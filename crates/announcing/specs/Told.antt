@@ -3,54 +3,21 @@
 -- from 1 on of a page that closed clean is wholly fresh or has no fresh cell, so that whole rows are left out; nothing here needs it.
 use mathlib.Core.Bool.{Bool, false, cond, _||_}
 use mathlib.Core.List.{List, [], _∷_, _++_, zipWith}
-use Prim.Native.Nat.{ℕ, zero, suc, _+_, _*_, _/_, _%_}
+use Prim.Native.Nat.{ℕ, zero, suc, _*_, _/_, _%_}
 use lib.Dec.{eqb, ltb}
 use lib.ListN.{take, drop}
 use Rattle.laws.specs.Text.{lineFeed}
+use Rattle.texts.specs.Decimal.{digitText}
 use Rattle.grid.specs.Grid.{columns, rows}
-use Rattle.packet.specs.declared.Header.{Header}
 use Rattle.page.specs.Lawful.{isFresh, older, space}
 use Rattle.page.specs.Reading.{pageRead}
 use Rattle.page.specs.Records.{recordLength}
 use Rattle.page.specs.declared.Cells.{Cells}
 use Rattle.page.specs.declared.Page.{Page}
-use Rattle.printing.specs.Pages.{pageText}
-use Rattle.tally.specs.Tally.{mendedText}
+use Rattle.printing.specs.Letters.{utf8PageText}
+use Rattle.heading.specs.Line.{lineText}
 use Rattle.watch.specs.declared.Word.{Word}
 use Rattle.watch.specs.declared.Word.the-variants as word
-
--- ---- the line that says what closed
-
--- a digit of 0 to 15: "0" to "9", "A" to "F"
-unfoldable pub digitText : ℕ → ℕ
-digitText digit = cond (ltb (digit % 16) 10) (0x30 + digit % 16) (0x37 + digit % 16)
-
--- "page 100 at 12:34:"
-unfoldable pub headingText : ℕ → Header → List ℕ
-unfolding digitText
-headingText magazine header =
-    0x70 ∷ 0x61 ∷ 0x67 ∷ 0x65 ∷ 0x20 ∷ digitText magazine ∷ digitText (header .tens) ∷ digitText (header .units)
-    ∷ 0x20 ∷ 0x61 ∷ 0x74 ∷ 0x20 ∷ digitText (header .«hours_tens») ∷ digitText (header .«hours_units») ∷ 0x3A
-    ∷ digitText (header .«minutes_tens») ∷ digitText (header .«minutes_units») ∷ 0x3A ∷ []
-
--- " clean, "
-abbrev pub cleanText : List ℕ
-cleanText = 0x20 ∷ 0x63 ∷ 0x6C ∷ 0x65 ∷ 0x61 ∷ 0x6E ∷ 0x2C ∷ 0x20 ∷ []
-
--- " doubt, "
-abbrev pub doubtText : List ℕ
-doubtText = 0x20 ∷ 0x64 ∷ 0x6F ∷ 0x75 ∷ 0x62 ∷ 0x74 ∷ 0x2C ∷ 0x20 ∷ []
-
--- " doubt, lines are missing, "
-abbrev pub missingText : List ℕ
-missingText =
-    0x20 ∷ 0x64 ∷ 0x6F ∷ 0x75 ∷ 0x62 ∷ 0x74 ∷ 0x2C ∷ 0x20 ∷ 0x6C ∷ 0x69 ∷ 0x6E ∷ 0x65 ∷ 0x73 ∷ 0x20 ∷ 0x61 ∷ 0x72 ∷ 0x65
-    ∷ 0x20 ∷ 0x6D ∷ 0x69 ∷ 0x73 ∷ 0x73 ∷ 0x69 ∷ 0x6E ∷ 0x67 ∷ 0x2C ∷ 0x20 ∷ []
-
--- "page 100 at 12:34: clean, 3 bytes mended"
-unfoldable pub lineText : Page → List ℕ → ℕ → List ℕ
-unfolding headingText mendedText
-lineText page word mended = headingText (page .magazine) (page .header) ++ (word ++ mendedText mended)
 
 -- ---- what was sent this time
 
@@ -95,12 +62,21 @@ leftOutText marks = cond (oneOlder marks) (leftOutWords ++ (olderRows rows marks
 
 -- ---- all that is said of a page, by the word and by how many bytes were mended in its own lines
 
+-- the line that says what closed
+abbrev pub pageLine : Word → ℕ → Page → List ℕ
+pageLine which mended page = lineText which (page .magazine) (page .header) mended
+
+-- of a clean page, behind its line: the rows that were left out, and the page in UTF-8, under its own control bits
+unfoldable pub cellsText : ℕ → Cells → List ℕ
+unfolding leftOutText freshCharacters utf8PageText
+cellsText control cells = leftOutText (cells .marks) ++ utf8PageText control (freshCharacters cells)
+
 unfoldable pub pageSaid : Word → ℕ → Page → List ℕ
-unfolding lineText leftOutText freshCharacters pageText
+unfolding lineText cellsText
 pageSaid word.None mended page = []
-pageSaid word.Clean mended page = lineText page cleanText mended ++ (leftOutText (page .cells .marks) ++ pageText (freshCharacters (page .cells)))
-pageSaid word.Doubt mended page = lineText page doubtText mended
-pageSaid word.Missing mended page = lineText page missingText mended
+pageSaid word.Clean mended page = pageLine word.Clean mended page ++ cellsText (page .header .control) (page .cells)
+pageSaid word.Doubt mended page = pageLine word.Doubt mended page
+pageSaid word.Missing mended page = pageLine word.Missing mended page
 
 -- of the record that was written as the page closed: what lies past it does not matter
 unfoldable pub announced : Word → ℕ → List ℕ → List ℕ

@@ -1,6 +1,6 @@
 // What is said over lines: each page that closes, once and in order, and of a clean page what was sent this time and nothing else.
 ghost use mathlib.Core.Bool.{cond};
-ghost use mathlib.Core.List.{[], _++_};
+ghost use mathlib.Core.List.{[]};
 ghost use mathlib.Core.Path.{_≡_};
 ghost use Prim.Native.Nat.{_+_, _*_, _/_, _≤_, _<_, min};
 ghost use lib.ListN.{length, take};
@@ -8,16 +8,16 @@ ghost use Rattle.grid.specs.Grid.{cellCount, rows};
 ghost use Rattle.packet.specs.Lines.{lineLength};
 ghost use Rattle.page.specs.Reading.{pageRead};
 ghost use Rattle.page.specs.Records.{recordLength};
-ghost use Rattle.printing.specs.Pages.{pageSize};
+ghost use Rattle.printing.specs.Letters.{utf8PageSize};
 ghost use Rattle.texts.specs.Put.{Puts};
-ghost use Rattle.tally.specs.Tally.{mendedSize, mendedText, shareSize};
-ghost use Rattle.announcing.specs.Private.{Printable, Stops, Whole, cellsSaid};
-ghost use Rattle.announcing.specs.Said.{SaysAs, fitting, headingSize, leftOutSize, longest, shareSaid, starting};
-ghost use Rattle.announcing.specs.Told.{announced, digitText, freshCharacters, headingText, leftOutText, lineText, olderRows, oneOlder, rowNumber, sentNow};
+ghost use Rattle.tally.specs.Tally.{shareSize};
+ghost use Rattle.heading.specs.Line.{lineSize};
+ghost use Rattle.announcing.specs.Private.{Printable, Stops, Whole};
+ghost use Rattle.announcing.specs.Said.{SaysAs, fitting, leftOutSize, longest, shareSaid, starting};
+ghost use Rattle.announcing.specs.Told.{announced, cellsText, freshCharacters, leftOutText, olderRows, oneOlder, pageLine, rowNumber, sentNow};
 use grid::CELLS;
 use grid::COLUMNS;
 use grid::ROWS;
-use packet::Header;
 use packet::LINE_LENGTH;
 use page::Cells;
 use page::FRESH;
@@ -25,24 +25,18 @@ use page::OLDER;
 use page::Page;
 use page::RECORD_LENGTH;
 use page::SPACE;
-use printing::PAGE;
+use printing::UTF8_PAGE;
 use receiver::Receiver;
-use tally::MENDED;
 use tally::ShareText;
+use texts::digit_text;
 use watch::Watch;
 use watch::Word;
-
-// "page 100 at 12:34:"
-const HEADING: usize = 18;
-
-// " clean, "
-const CLEAN: usize = 8;
 
 // "rows from earlier, left out:", three bytes for each row, and a line feed.
 const LEFT_OUT: usize = 28 + 3 * ROWS + 1;
 
 // The most that is said of a line, which is of a clean page.
-pub const LONGEST: usize = HEADING + CLEAN + MENDED + LEFT_OUT + PAGE;
+pub const LONGEST: usize = heading::LINE + LEFT_OUT + UTF8_PAGE;
 
 // After some lines: the receiver, the watch beside it, how many bytes of the lines were used, and how many of the room the text takes.
 pub struct Announced {
@@ -50,39 +44,6 @@ pub struct Announced {
     pub watch: Watch,
     pub used: usize,
     pub length: usize,
-}
-
-fn digit_text(digit: u8) -> u8
-    ensures { λ r. ⌜ r ≡ digitText digit ⌝ }
-{
-    let low = digit % 16;
-    if low < 10 { 0x30 + low } else { 0x37 + low }
-}
-
-// What stands before the word on a page that closed.
-fn heading(magazine: u8, header: Header) -> [u8; HEADING]
-    ensures { λ r. ⌜ r ≡ headingText magazine header ⌝ }
-{
-    [
-        b'p',
-        b'a',
-        b'g',
-        b'e',
-        b' ',
-        digit_text(magazine),
-        digit_text(header.tens),
-        digit_text(header.units),
-        b' ',
-        b'a',
-        b't',
-        b' ',
-        digit_text(header.hours_tens),
-        digit_text(header.hours_units),
-        b':',
-        digit_text(header.minutes_tens),
-        digit_text(header.minutes_units),
-        b':',
-    ]
 }
 
 // Puts a text into the room at a place, and answers the place behind it.
@@ -182,46 +143,27 @@ fn put_left_out(room: &mut [u8], at: usize, marks: &[u8]) -> usize
 }
 
 // A clean page, behind its line.
-fn put_cells(room: &mut [u8], at: usize, cells: Cells) -> usize
-    requires { ⌜ (at + (leftOutSize + pageSize) ≤ length (now room)) × Printable cells ⌝ }
-    ensures { λ r. ⌜ Puts (cellsSaid cells) (now (room .entry)) at (now (room .exit)) r ⌝ }
+fn put_cells(room: &mut [u8], at: usize, cells: Cells, control: u16) -> usize
+    requires { ⌜ (at + (leftOutSize + utf8PageSize) ≤ length (now room)) × Printable cells ⌝ }
+    ensures { λ r. ⌜ Puts (cellsText control cells) (now (room .entry)) at (now (room .exit)) r ⌝ }
 {
     let marks = cells.marks;
     let rows = put_left_out(room, at, &marks);
     let sent = fresh_characters(cells);
-    let page = printing::printed_page(&sent);
+    let page = printing::utf8_page(&sent, control);
     let text = page.text;
-    put(room, rows, &text)
+    put(room, rows, &text[..page.used])
 }
 
-// What closed, and its word.
-fn put_heading(room: &mut [u8], at: usize, page: Page, word: &[u8]) -> usize
-    requires { ⌜ at + (headingSize + length (now word)) ≤ length (now room) ⌝ }
-    ensures { λ r. ⌜ Puts (headingText (page .magazine) (page .header) ++ now (word .entry)) (now (room .entry)) at (now (room .exit)) r ⌝ }
+// The line that says what closed.
+fn put_line(room: &mut [u8], at: usize, page: Page, word: Word, mended: u64) -> usize
+    requires { ⌜ at + lineSize ≤ length (now room) ⌝ }
+    ensures { λ r. ⌜ Puts (pageLine word mended page) (now (room .entry)) at (now (room .exit)) r ⌝ }
 {
     let header = page.header;
-    let heading = heading(page.magazine, header);
-    let end = put(room, at, &heading);
-    put(room, end, word)
-}
-
-// How many bytes were mended in its own lines.
-fn put_mended(room: &mut [u8], at: usize, mended: u64) -> usize
-    requires { ⌜ at + mendedSize ≤ length (now room) ⌝ }
-    ensures { λ r. ⌜ Puts (mendedText mended) (now (room .entry)) at (now (room .exit)) r ⌝ }
-{
-    let text = tally::mended_text(mended);
-    let bytes = text.bytes;
-    put(room, at, &bytes[..text.used])
-}
-
-// The line that says both.
-fn put_line(room: &mut [u8], at: usize, page: Page, word: &[u8], mended: u64) -> usize
-    requires { ⌜ at + (headingSize + (length (now word) + mendedSize)) ≤ length (now room) ⌝ }
-    ensures { λ r. ⌜ Puts (lineText page (now (word .entry)) mended) (now (room .entry)) at (now (room .exit)) r ⌝ }
-{
-    let end = put_heading(room, at, page, word);
-    put_mended(room, end, mended)
+    let line = heading::line_of(word, page.magazine, header, mended);
+    let bytes = line.bytes;
+    put(room, at, &bytes[..line.used])
 }
 
 // The record alone, where more was lent.
@@ -251,18 +193,13 @@ fn put_announced(room: &mut [u8], at: usize, word: Word, mended: u64, record: &[
         Word::None => at,
         Word::Clean => {
             let page = page_in(record);
-            let line = put_line(room, at, page, b" clean, ", mended);
+            let line = put_line(room, at, page, Word::Clean, mended);
             let cells = page.cells;
-            put_cells(room, line, cells)
+            let header = page.header;
+            put_cells(room, line, cells, header.control)
         }
-        Word::Doubt => put_line(room, at, page_in(record), b" doubt, ", mended),
-        Word::Missing => put_line(
-            room,
-            at,
-            page_in(record),
-            b" doubt, lines are missing, ",
-            mended,
-        ),
+        Word::Doubt => put_line(room, at, page_in(record), Word::Doubt, mended),
+        Word::Missing => put_line(room, at, page_in(record), Word::Missing, mended),
     }
 }
 

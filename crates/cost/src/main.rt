@@ -1,27 +1,21 @@
-// Does one piece of work so many times, for its instructions to be counted (bench/count): between two counts start-up falls out. Standard input has the work's
+// Does one piece of work on lines, or on pages printed, so many times, for its instructions to be counted (bench/count): between two counts start-up falls out. Standard input has the work's
 // letter and two parts, as a case has them: two bytes with the count, and what the work is done on. What each turn gives is mixed into a byte that is written at the
 // end, so that no turn can be left out.
 ghost use mathlib.Core.Path.{_≡_};
 ghost use Prim.Native.Nat.{_*_};
 ghost use lib.ListN.{length};
 ghost use Rattle.packet.specs.Lines.{lineLength};
-use display::Cell;
-use display::Height;
-use display::Symbol;
-use field::Found;
 use grid::CELLS;
 use packet::LINE_LENGTH;
-use page::Page;
 use page::RECORD_LENGTH;
+use printing::PAGE;
+use printing::UTF8_PAGE;
 use receiver::Answer;
 use receiver::Closing;
 use receiver::Mended;
 use receiver::Receiver;
 use receiver::Selection;
 use receiver::When;
-use sending::CHOICES;
-use sending::LONGEST;
-use sending::Sent;
 
 // Lines are taken two in turn.
 const PAIR: usize = 2 * LINE_LENGTH;
@@ -169,147 +163,40 @@ fn lines_taken(work: u8, input: &[u8], count: usize) -> u8 {
     taken(work, receiver, cases::rest(input, 2 + size), carried, count)
 }
 
-// The units of a field, one search after another until there is no more.
-fn searched(field: &[u8]) -> u8 {
-    let mut sum: u8 = 0;
-    let mut place = 0;
-    let mut turns: u8 = 100;
-    while turns > 0 {
-        let Found::Packet {
-            packet,
-            parity,
-            offset,
-            after,
-        } = field::search(field, place)
-        else {
-            return sum;
-        };
-        sum = sum ^ parity ^ offset ^ (packet % 256) as u8;
-        place = after;
-        turns -= 1;
-    }
-    sum
-}
-
-// Work f.
-fn fields_searched(field: &[u8], count: usize) -> u8 {
+// Work a: a page is printed.
+fn pages_printed(codes: &[u8], count: usize) -> u8 {
     let mut sum: u8 = 0;
     let mut turn = 0;
     while turn < count {
-        sum = sum ^ searched(field) ^ (turn % 256) as u8;
+        let page = printing::printed_page(codes);
+        let text = page.text;
+        sum = sum ^ text[turn % PAGE];
         turn += 1;
     }
     sum
 }
 
-fn pages_written(page: Page, count: usize) -> u8 {
-    let mut record = [0u8; RECORD_LENGTH];
+fn pages_spelled(codes: &[u8], control: u16, count: usize) -> u8 {
     let mut sum: u8 = 0;
     let mut turn = 0;
     while turn < count {
-        page::write_record(page, &mut record);
-        sum = sum ^ record[turn % RECORD_LENGTH];
+        let page = printing::utf8_page(codes, control);
+        let text = page.text;
+        sum = sum ^ text[turn % UTF8_PAGE] ^ (page.used % 256) as u8;
         turn += 1;
     }
     sum
 }
 
-// Work w: the page of a record is written.
-fn page_written(record: &[u8], count: usize) -> u8 {
-    let read = page::read_record(record);
-    let page = read.page;
-    pages_written(page, count)
-}
-
-// Work d: a record is read.
-fn pages_read(record: &[u8], count: usize) -> u8 {
-    let mut sum: u8 = 0;
-    let mut turn = 0;
-    while turn < count {
-        let read = page::read_record(record);
-        let page = read.page;
-        let cells = page.cells;
-        let at = turn % CELLS;
-        sum = sum ^ cells.characters[at] ^ cells.marks[at];
-        turn += 1;
-    }
-    sum
-}
-
-fn lines_of(sent: Sent) -> u8 {
-    match sent {
-        Sent::Lines(count) => (count % 256) as u8,
-        Sent::WrongLength => 20,
-        Sent::NotZero => 21,
-        Sent::BadDigit => 22,
-        Sent::UnlawfulCells => 23,
-        Sent::ShortRoom => 30,
-    }
-}
-
-fn pages_sent(record: &[u8], wanted: [bool; CHOICES], count: usize) -> u8 {
-    let mut room = [0u8; LONGEST];
-    let mut sum: u8 = 0;
-    let mut turn = 0;
-    while turn < count {
-        let sent = sending::send_page(record, wanted, &mut room);
-        sum = sum ^ lines_of(sent) ^ room[turn % LONGEST];
-        turn += 1;
-    }
-    sum
-}
-
-// Work t: the page of a record is sent: whether every row is wanted or none, and the record.
-fn page_sent(input: &[u8], count: usize) -> u8 {
-    let wanted = [cases::byte_at(input, 0) == 1; CHOICES];
-    pages_sent(cases::rest(input, 1), wanted, count)
-}
-
-fn height_number(height: Height) -> u8 {
-    match height {
-        Height::Normal => 0,
-        Height::Upper => 1,
-        Height::Lower => 2,
-    }
-}
-
-fn cell_sum(cell: Cell) -> u8 {
-    let symbol = cell.symbol;
-    let shown = match symbol {
-        Symbol::Letter(code) => code,
-        Symbol::Mosaic { pattern, separated } => pattern ^ separated as u8,
-    };
-    let height = cell.height;
-    shown
-        ^ cell.foreground
-        ^ cell.background
-        ^ cell.flash as u8
-        ^ cell.conceal as u8
-        ^ cell.boxed as u8
-        ^ height_number(height)
-}
-
-// Work g: a page is shown.
-fn pages_shown(codes: &[u8], count: usize) -> u8 {
-    let mut sum: u8 = 0;
-    let mut turn = 0;
-    while turn < count {
-        let page = display::page_of(codes);
-        let cells = page.cells;
-        let cell = cells[turn % CELLS];
-        sum = sum ^ cell_sum(cell);
-        turn += 1;
-    }
-    sum
+// Work u: a page is printed in UTF-8: its control bits, and its codes.
+fn page_spelled(input: &[u8], count: usize) -> u8 {
+    pages_spelled(cases::rest(input, 2), cases::double(input), count)
 }
 
 fn done(work: u8, input: &[u8], count: usize) -> u8 {
     match work {
-        b'f' => fields_searched(input, count),
-        b'w' => page_written(input, count),
-        b'd' => pages_read(input, count),
-        b't' => page_sent(input, count),
-        b'g' => pages_shown(input, count),
+        b'a' => pages_printed(input, count),
+        b'u' => page_spelled(input, count),
         _ => lines_taken(work, input, count),
     }
 }

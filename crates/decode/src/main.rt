@@ -1,5 +1,6 @@
-// Answers cases of bytes, data-lines, packets, data fields and pages of codes by the library, for its answers to be held to those of others (tests/model/FORMAT.md).
+// Answers cases of bytes, data-lines, packets, data fields, pages of codes and letters by the library, for its answers to be held to those of others (tests/model/FORMAT.md).
 mod coded;
+mod lettered;
 mod sent;
 mod shown;
 mod units;
@@ -17,6 +18,9 @@ fn answer(sort: u8, input: &[u8]) {
         b'g' => shown::answer_page(input),
         b'e' => sent::answer_bytes(input),
         b'k' => sent::answer_packets(input),
+        b'i' => lettered::answer_form(input),
+        b'c' => lettered::answer_letter(input),
+        b'o' => lettered::answer_text(input),
         _ => cases::put_byte(UNKNOWN),
     }
 }

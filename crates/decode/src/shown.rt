@@ -58,7 +58,7 @@ fn put_cells(cells: [Cell; CELLS]) {
     }
 }
 
-fn put_answer(answer: DisplayAnswer) {
+pub(crate) fn put_answer(answer: DisplayAnswer) {
     match answer {
         DisplayAnswer::Shown => cases::put_byte(0),
         DisplayAnswer::Refused => cases::put_byte(25),

@@ -14,6 +14,12 @@ getD-map f [] k b a h = absurd (not-suc-le-zero h)
 getD-map f (x ∷ xs) zero b a h = refl
 getD-map f (x ∷ xs) (suc k) b a h = getD-map f xs k b a (le-of-suc-le-suc h)
 
+-- an element that is there, whatever stands for one that is not
+pub getD-any : {A : Type 0} (xs : List A) (k : ℕ) (a b : A) → k < length xs → getD xs k a ≡ getD xs k b
+getD-any [] k a b h = absurd (not-suc-le-zero h)
+getD-any (x ∷ xs) zero a b h = refl
+getD-any (x ∷ xs) (suc k) a b h = getD-any xs k a b (le-of-suc-le-suc h)
+
 -- no more than a list has
 pub take-min : (n : ℕ) (xs : List ℕ) → take (min n (length xs)) xs ≡ take n xs
 take-min zero xs = ap (λ (k : ℕ). take k xs) (zero-min (length xs))

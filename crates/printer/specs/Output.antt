@@ -1,17 +1,12 @@
 -- Document 01, "Programs": the page printer takes a record and prints 24 lines, or only "refused" and the number.
 use mathlib.Core.Bool.{cond}
-use mathlib.Core.List.{List, [], _∷_, _++_}
+use mathlib.Core.List.{List, []}
 use mathlib.Core.Option.{Option, none, some}
-use Prim.Native.Nat.{ℕ, _+_, _/_, _%_}
+use Prim.Native.Nat.{ℕ}
 use lib.Dec.{eqb}
-use Rattle.laws.specs.Text.{lineFeed}
+use Rattle.laws.specs.Text.{refusedText}
 use Rattle.page.specs.Reading.{readAnswer, readPaper, pageRead}
 use Rattle.printing.specs.Pages.{pageText}
-
--- "refused ", and a number of two digits
-abbrev pub refusedText : ℕ → List ℕ
-refusedText number =
-    (0x72 ∷ 0x65 ∷ 0x66 ∷ 0x75 ∷ 0x73 ∷ 0x65 ∷ 0x64 ∷ 0x20 ∷ []) ++ ((0x30 + number / 10) ∷ (0x30 + number % 10) ∷ lineFeed)
 
 -- by the number of the reader's answer, which has always one
 unfoldable pub outputOf : Option ℕ → List ℕ → List ℕ

@@ -2,6 +2,8 @@
 use mathlib.Core.Path.{_≡_, refl}
 use mathlib.Core.List.{List, [], _∷_, map}
 use Prim.Native.Nat.{ℕ}
+use Rattle.letters.specs.Sets.{letterOf}
+use Rattle.letters.specs.Utf8.{utf8Text}
 use Rattle.display.specs.Display.{start, along}
 use Rattle.display.specs.Pages.{under}
 use Rattle.printing.specs.Printed.{cellByte}
@@ -29,3 +31,27 @@ pub lower-again : map cellByte (map under (along start (0x41 ∷ 0x0D ∷ 0x42 �
     ≡ 0x20 ∷ 0x20 ∷ 0x42 ∷ 0x43 ∷ 0x20 ∷ 0x20 ∷ []
 unfolding cellByte under along start
 lower-again = refl
+
+-- ---- in UTF-8
+
+abbrev utf8Of : ℕ → List ℕ → List ℕ
+utf8Of control bytes = utf8Text (map (letterOf control) bytes)
+
+-- English: pounds, five, a half; in German the same codes are a number sign and an O with two dots
+pub pounds : utf8Of 0 (bytesOf (0x23 ∷ 0x35 ∷ 0x5C ∷ [])) ≡ 0xC2 ∷ 0xA3 ∷ 0x35 ∷ 0xC2 ∷ 0xBD ∷ []
+unfolding utf8Text letterOf cellByte along start
+pounds = refl
+
+pub german : utf8Of 1 (bytesOf (0x23 ∷ 0x35 ∷ 0x5C ∷ [])) ≡ 0x23 ∷ 0x35 ∷ 0xC3 ∷ 0x96 ∷ []
+unfolding utf8Text letterOf cellByte along start
+german = refl
+
+-- among mosaics an arrow of 5B, in three bytes; 23 is a mosaic there
+pub among-mosaics : utf8Of 0 (bytesOf (0x11 ∷ 0x5B ∷ 0x23 ∷ [])) ≡ 0x20 ∷ 0xE2 ∷ 0x86 ∷ 0x90 ∷ 0x3F ∷ []
+unfolding utf8Text letterOf cellByte along start
+among-mosaics = refl
+
+-- below a headline the letter again
+pub lower-pounds : utf8Of 0 (map cellByte (map under (along start (0x0D ∷ 0x23 ∷ 0x35 ∷ [])))) ≡ 0x20 ∷ 0xC2 ∷ 0xA3 ∷ 0x35 ∷ []
+unfolding utf8Text letterOf cellByte under along start
+lower-pounds = refl

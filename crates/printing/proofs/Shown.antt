@@ -6,17 +6,22 @@ use mathlib.Core.Option.{Option, none, some}
 use Prim.Native.Nat.{ℕ}
 use native.Mathlib.Omega.{arith}
 use lib.Dec.{eqb}
-use lib.ListN.{length, replicate, length-replicate}
+use lib.ListN.{length, take, replicate, length-replicate}
 use Rattle.laws.specs.Paper.{accepted, refusedBy}
+use Rattle.laws.proofs.Padded.{padded-text}
+use Rattle.letters.specs.Sets.{standsIn}
 use Rattle.grid.specs.Grid.{cellCount, rows}
 use Rattle.display.specs.Pages.{Displayed, displayAnswerPaper, displayed, displayedPaper, isPage, pageCells}
 use Rattle.display.specs.declared.DisplayAnswer.{DisplayAnswer}
 use Rattle.display.specs.declared.DisplayAnswer.the-variants.{Refused, Shown}
 use Rattle.display.specs.declared.DisplayedPage.{DisplayedPage}
 use Rattle.display.proofs.Pages as display
+use Rattle.printing.specs.Letters.{PrintedUtf8, pageLetters, printedUtf8, refusedUtf8, shownUtf8, utf8PageSize, utf8PageText, utf8Paper}
 use Rattle.printing.specs.Pages.{linesText, pagePaper, pageSize, pageText, printedPage}
+use Rattle.printing.specs.Private.{spelledPage}
 use Rattle.printing.specs.Printed.{Printed}
 use Rattle.printing.specs.declared.PrintedPage.{PrintedPage}
+use Rattle.printing.specs.declared.Utf8Page.{Utf8Page}
 use Rattle.printing.proofs.Pages.{lines-length}
 
 pub page-shown : (codes : List ℕ) → isPage codes ≡ true → printedPage codes ≡ record { answer = accepted []; bytes = pageText codes }
@@ -72,3 +77,54 @@ module _ (page : DisplayedPage) (codes : List ℕ) (is : displayedPaper page ≡
   text-refused e printed beside =
       let no = told ∙ ap (λ (a : DisplayAnswer). shownBy (displayAnswerPaper a .number)) e in
       (beside ∙ sym (page-refused codes no), sym (ap (λ (p : Printed). length (p .bytes)) beside ∙ length-replicate {A = ℕ} pageSize 0))
+
+-- ---- by the printed page's answer, its letters
+
+utf8-shown : (control : ℕ) (codes : List ℕ) → isPage codes ≡ true → printedUtf8 control codes ≡ shownUtf8 control (utf8PageText control codes)
+unfolding printedUtf8
+utf8-shown control codes e = rw e
+
+utf8-refused : (control : ℕ) (codes : List ℕ) → isPage codes ≡ false → printedUtf8 control codes ≡ refusedUtf8
+unfolding printedUtf8
+utf8-refused control codes e = rw e
+
+by-printed : (codes : List ℕ) (page : Bool) → isPage codes ≡ page → shownBy (printedPage codes .answer .number) ≡ page
+unfolding accepted refusedBy
+by-printed codes true e = rw (page-shown codes e)
+by-printed codes false e = rw (page-refused codes e)
+
+module _ (printed : PrintedPage) (control : ℕ) (codes : List ℕ) (is : pagePaper printed ≡ printedPage codes) where
+  printed-told : isPage codes ≡ shownBy (displayAnswerPaper (printed .answer) .number)
+  unfolding pagePaper
+  printed-told = sym (by-printed codes (isPage codes) refl) ∙ ap (λ (p : Printed). shownBy (p .answer .number)) (sym is)
+
+  pub letters-shown : printed .answer ≡ Shown → (page : Utf8Page) → page ≡ spelledPage control (printed .text) → utf8Paper page ≡ printedUtf8 control codes
+  unfolding displayAnswerPaper accepted pagePaper utf8Paper spelledPage shownUtf8 utf8PageText pageLetters
+  letters-shown e page made =
+      let shown = printed-told ∙ ap (λ (a : DisplayAnswer). shownBy (displayAnswerPaper a .number)) e in
+      let text = ap (λ (p : Printed). p .bytes) (is ∙ page-shown codes shown) in
+      rw (made, text) (sym (utf8-shown control codes shown))
+
+  pub letters-refused : printed .answer ≡ Refused → (page : Utf8Page) → utf8Paper page ≡ refusedUtf8 → utf8Paper page ≡ printedUtf8 control codes
+  unfolding displayAnswerPaper refusedBy
+  letters-refused e page made =
+      let no = printed-told ∙ ap (λ (a : DisplayAnswer). shownBy (displayAnswerPaper a .number)) e in
+      made ∙ sym (utf8-refused control codes no)
+
+-- ---- the text of a page that is shown, for those who lend it on
+
+module _ (page : Utf8Page) (control : ℕ) (codes : List ℕ) (shown : isPage codes ≡ true) (is : utf8Paper page ≡ printedUtf8 control codes) where
+  shown-as : utf8Paper page ≡ shownUtf8 control (utf8PageText control codes)
+  shown-as = is ∙ utf8-shown control codes shown
+
+  pub utf8-is : take (page .used) (page .text) ≡ utf8PageText control codes
+  unfolding utf8Paper shownUtf8
+  utf8-is = ap (λ (p : PrintedUtf8). take (p .used) (p .bytes)) shown-as ∙ padded-text utf8PageSize (utf8PageText control codes)
+
+  pub utf8-counted : page .used ≡ length (take (page .used) (page .text))
+  unfolding utf8Paper shownUtf8
+  utf8-counted = ap (λ (p : PrintedUtf8). p .used) shown-as ∙ sym (ap length utf8-is)
+
+  pub utf8-english : page .english ≡ standsIn control
+  unfolding utf8Paper shownUtf8
+  utf8-english = ap (λ (p : PrintedUtf8). p .english) shown-as

@@ -1,4 +1,6 @@
-// A page as text: twenty-four lines of forty bytes, one for each cell, each line with a line feed.
+// A page as text: twenty-four lines of forty bytes, one for each cell, each line with a line feed; and in UTF-8, with national letters.
+mod utf8;
+
 ghost use mathlib.Core.List.{[]};
 ghost use mathlib.Core.Path.{_≡_};
 ghost use lib.ListN.{length, replicate};
@@ -12,16 +14,29 @@ use display::Symbol;
 use grid::CELLS;
 use grid::COLUMNS;
 use grid::ROWS;
+use letters::MOST_OF_LETTERS;
+pub use utf8::utf8_page;
 
 // A row's text with its line feed.
 pub const LINE: usize = COLUMNS + 1;
 
 pub const PAGE: usize = ROWS * LINE;
 
+// The most that a page takes in UTF-8: for each byte of the text as many as a letter can have.
+pub const UTF8_PAGE: usize = MOST_OF_LETTERS * PAGE;
+
 // An answer and the text beside it, which is zeros where the page was refused.
 pub struct PrintedPage {
     pub answer: DisplayAnswer,
     pub text: [u8; PAGE],
+}
+
+// The same in UTF-8: whether English stands in, and the text, `used` bytes with zeros past them; all zeros where the page was refused.
+pub struct Utf8Page {
+    pub answer: DisplayAnswer,
+    pub english: bool,
+    pub text: [u8; UTF8_PAGE],
+    pub used: usize,
 }
 
 fn byte_of(symbol: Symbol) -> u8

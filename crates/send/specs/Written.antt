@@ -1,11 +1,12 @@
 -- What the program writes for a record and the rows that are wanted of it: to standard output the lines of one transmission and then the line that ends its
 -- page; or nothing, and to standard error "refused" and the number.
 use mathlib.Core.Bool.{Bool, cond}
-use mathlib.Core.List.{List, [], _∷_, _++_}
+use mathlib.Core.List.{List, [], _++_}
 use mathlib.Core.Option.{Option, none, some}
-use Prim.Native.Nat.{ℕ, _+_, _*_, _/_, _%_}
+use Prim.Native.Nat.{ℕ, _*_}
 use lib.Dec.{eqb}
 use lib.ListN.{replicate}
+use Rattle.laws.specs.Text.{refusedText}
 use Rattle.grid.specs.Grid.{rows}
 use Rattle.packet.specs.Lines.{lineLength}
 use Rattle.page.specs.Reading.{pageRead}
@@ -38,11 +39,6 @@ unfolding outputOf numberOf
 output input wanted = outputOf (numberOf input wanted) (pageRead input) wanted
 
 -- ---- standard error
-
--- "refused ", a number of two digits, and a line feed
-abbrev pub refusedText : ℕ → List ℕ
-refusedText number =
-    (0x72 ∷ 0x65 ∷ 0x66 ∷ 0x75 ∷ 0x73 ∷ 0x65 ∷ 0x64 ∷ 0x20 ∷ []) ++ ((0x30 + number / 10) ∷ (0x30 + number % 10) ∷ 0x0A ∷ [])
 
 unfoldable pub complaintOf : Option ℕ → List ℕ
 complaintOf none = []

@@ -28,6 +28,10 @@ put-none room at =
 pub pasted : (room : List ℕ) (at : ℕ) (text : List ℕ) → paste room at text (length text) ≡ laidAt room at text
 pasted room at text = ap (λ (t : List ℕ). (take at room ++ t) ++ drop (at + length text) room) (take-all (length text) text (omega arith))
 
+pub put-pasted : (room : List ℕ) (at : ℕ) (text : List ℕ) (count : ℕ) → count ≡ length text → Puts text room at (paste room at text count) (at + count)
+put-pasted room at text count all =
+    record { laid = ap (paste room at text) all ∙ pasted room at text; ends = ap (λ (n : ℕ). at + n) all }
+
 module _ {text room : List ℕ} {at : ℕ} {after : List ℕ} {end : ℕ} (p : Puts text room at after end) (fits : at + length text ≤ length room) where
   -- it leaves the room its length
   pub same-room : length after ≡ length room

@@ -1,4 +1,4 @@
--- A number in decimal, as the list of its bytes, and how they are held.
+-- A number in decimal, as the list of its bytes, and how they are held; and one digit of 0 to 15.
 use mathlib.Core.Bool.{cond}
 use mathlib.Core.List.{List, [], _∷_, _++_}
 use Prim.Native.Nat.{ℕ, zero, suc, _+_, _/_, _%_}
@@ -28,3 +28,9 @@ mostDigits = 20
 -- digits in an array of twenty bytes, and how many there are
 unfoldable pub digitsHeld : List ℕ → Digits
 digitsHeld digits = record { bytes = padded mostDigits digits; used = length digits }
+
+-- ---- a digit of 0 to 15
+
+-- "0" to "9", "A" to "F"; a larger number goes by its last digit
+unfoldable pub digitText : ℕ → ℕ
+digitText number = cond (ltb (number % 16) 10) (0x30 + number % 16) (0x37 + number % 16)

@@ -3,7 +3,7 @@ ghost use mathlib.Core.List.{[]};
 ghost use mathlib.Core.Path.{_≡_};
 ghost use Prim.Native.Nat.{_+_, _≤_, _<_};
 ghost use lib.ListN.{length, set};
-ghost use Rattle.texts.specs.Decimal.{decimal, digit, digitsHeld, mostDigits};
+ghost use Rattle.texts.specs.Decimal.{decimal, digit, digitText, digitsHeld, mostDigits};
 ghost use Rattle.texts.specs.Put.{Puts, PutsWhole};
 
 // A word of 64 bits has no more digits.
@@ -48,6 +48,14 @@ pub fn digits_of(number: u64) -> Digits
     }
     let front = digits_of(number / 10);
     with_digit(front, (number % 10) as u8)
+}
+
+// A digit of 0 to 15, "0" to "9" and "A" to "F".
+pub fn digit_text(number: u8) -> u8
+    ensures { λ r. ⌜ r ≡ digitText number ⌝ }
+{
+    let low = number % 16;
+    if low < 10 { 0x30 + low } else { 0x37 + low }
 }
 
 // Puts a text that fits.

@@ -7,13 +7,14 @@ use lib.ListN.{length, take}
 use Rattle.page.specs.Reading.{pageRead}
 use Rattle.page.specs.Records.{recordLength}
 use Rattle.page.specs.declared.Page.{Page}
-use Rattle.printing.specs.Pages.{pageSize}
+use Rattle.printing.specs.Letters.{utf8PageSize}
+use Rattle.heading.proofs.Words.{line-length}
 use Rattle.watch.specs.declared.Word.{Word}
+use Rattle.watch.specs.declared.Word.the-variants as word
 use Rattle.announcing.specs.Private.{Printable}
 use Rattle.announcing.specs.Said.{leftOutSize}
-use Rattle.announcing.specs.Told.{announced, cleanText, lineText, pageSaid}
+use Rattle.announcing.specs.Told.{announced, pageLine, pageSaid}
 use Rattle.announcing.proofs.Fresh.{printable-read}
-use Rattle.announcing.proofs.Lengths.{line-length}
 use Rattle.texts.proofs.Putting.{as-text, put-none, put-then, same-room}
 use borrow.Author.Needs.{needs}
 use Rattle.announcing.proofs.put_announced.Statement.{statement}
@@ -34,37 +35,32 @@ enum-told-2 c = search needs
 page-in-requires : tie.Need-page-in-requires
 page-in-requires c κs = search needs
 
-slice-aggregate-put-line : tie.Need-slice-aggregate-put-line
-slice-aggregate-put-line c = search needs
-
 put-line-requires : tie.Need-put-line-requires
 put-line-requires c κs = search needs
 
 -- behind the line of a clean page there is room for its cells
 line-fits : (c : tie.After-put-line)
-    → let a = c .before .before .before .before .before .before .before .before .args in
-    a .at + (length (lineText (c .before .before .before .page-in .result) cleanText (a .mended)) + (leftOutSize + pageSize)) ≤ length (a .room .now)
+    → let a = c .before .before .before .before .before .before .before .args in
+    a .at + (length (pageLine word.Clean (a .mended) (c .before .before .page-in .result)) + (leftOutSize + utf8PageSize)) ≤ length (a .room .now)
 line-fits c =
-    let start = c .before .before .before .before .before .before .before .before in
-    let line = line-length (c .before .before .before .page-in .result) (start .args .mended) (omega arith) cleanText in
+    let start = c .before .before .before .before .before .before .before in
+    let page = c .before .before .page-in .result in
+    let line = line-length word.Clean (page .magazine) (page .header) (start .args .mended) (omega arith) in
     omega (arith, start .pre)
 
 put-cells-requires : tie.Need-put-cells-requires
 put-cells-requires c κs =
-    let call = c .before .before .before .before in
+    let call = c .before .before .before .before .before in
     let fits = line-fits call in
     let same = same-room (call .put-line .ensures) (omega arith) in
     let ends = call .put-line .ensures .ends in
-    (omega arith, subst (λ (p : Page). Printable (p .cells)) (sym (call .before .before .before .page-in .ensures)) (printable-read _))
+    (omega arith, subst (λ (p : Page). Printable (p .cells)) (sym (call .before .before .page-in .ensures)) (printable-read _))
 
 enum-told-3 : tie.Need-enum-told-3
 enum-told-3 c = search needs
 
 page-in-requires-2 : tie.Need-page-in-requires-2
 page-in-requires-2 c κs = search needs
-
-slice-aggregate-put-line-2 : tie.Need-slice-aggregate-put-line-2
-slice-aggregate-put-line-2 c = search needs
 
 put-line-requires-2 : tie.Need-put-line-requires-2
 put-line-requires-2 c κs = search needs
@@ -74,9 +70,6 @@ enum-told-4 c = search needs
 
 page-in-requires-3 : tie.Need-page-in-requires-3
 page-in-requires-3 c κs = search needs
-
-slice-aggregate-put-line-3 : tie.Need-slice-aggregate-put-line-3
-slice-aggregate-put-line-3 c = search needs
 
 put-line-requires-3 : tie.Need-put-line-requires-3
 put-line-requires-3 c κs = search needs
@@ -93,11 +86,11 @@ same-length c = search needs
 returns-2 : tie.Need-returns-2
 unfolding pageSaid
 returns-2 c =
-    let call = c .before .before .before .before .before .before .before in
+    let call = c .before .before .before .before .before .before .before .before in
     let fits = line-fits call in
     as-text (put-then (call .put-line .ensures) (omega arith) (c .before .before .put-cells .ensures))
-    (by-word _ (call .before .before .before .before .before .before .before .before .args .«record» .now) (call .before .before .before .before .enum-told2 .given .1)
-    (call .before .before .before .page-in .ensures))
+    (by-word _ (call .before .before .before .before .before .before .before .args .«record» .now) (call .before .before .before .enum-told2 .given .1)
+    (call .before .before .page-in .ensures))
 
 same-length-2 : tie.Need-same-length-2
 same-length-2 c = search needs
@@ -106,7 +99,7 @@ returns-3 : tie.Need-returns-3
 unfolding pageSaid
 returns-3 c =
     let call = c .before .before in
-    as-text (call .put-line2 .ensures) (by-word _ _ (call .before .before .before .before .enum-told3 .given .1) (call .before .before .page-in2 .ensures))
+    as-text (call .put-line2 .ensures) (by-word _ _ (call .before .before .before .enum-told3 .given .1) (call .before .page-in2 .ensures))
 
 same-length-3 : tie.Need-same-length-3
 same-length-3 c = search needs
@@ -115,7 +108,7 @@ returns-4 : tie.Need-returns-4
 unfolding pageSaid
 returns-4 c =
     let call = c .before .before in
-    as-text (call .put-line3 .ensures) (by-word _ _ (call .before .before .before .before .enum-told4 .given .1) (call .before .before .page-in3 .ensures))
+    as-text (call .put-line3 .ensures) (by-word _ _ (call .before .before .before .enum-told4 .given .1) (call .before .page-in3 .ensures))
 
 pub put-announced-spec : {M : Type 1} → statement M
 put-announced-spec =
@@ -124,16 +117,13 @@ put-announced-spec =
     enum-told
     enum-told-2
     page-in-requires
-    slice-aggregate-put-line
     put-line-requires
     put-cells-requires
     enum-told-3
     page-in-requires-2
-    slice-aggregate-put-line-2
     put-line-requires-2
     enum-told-4
     page-in-requires-3
-    slice-aggregate-put-line-3
     put-line-requires-3
     returns
     same-length

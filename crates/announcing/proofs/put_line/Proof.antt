@@ -1,48 +1,56 @@
--- `announcing::put_line` meets its contract: what closed with its word, and the bytes that were mended.
-use mathlib.Core.List.{_++_, append-assoc}
-use Prim.Native.Nat.{_+_, _≤_}
+-- `announcing::put_line` meets its contract: the line that is held is put, and there is room for it.
+use mathlib.Core.Path.{_≡_, ap}
 use native.Mathlib.Omega.{arith}
 use borrow.Author.Needs.{needs}
-use lib.ListN.{length, length-append}
-use Rattle.tally.specs.Tally.{mendedSize, mendedText}
-use Rattle.texts.proofs.Putting.{as-text, put-then, same-room}
-use Rattle.announcing.specs.Told.{headingText, lineText}
+use lib.ListN.{length, take}
+use Rattle.texts.proofs.Putting.{as-text}
+use Rattle.heading.proofs.Words.{line-counted, line-is, line-length}
+use Rattle.announcing.specs.Told.{pageLine}
 use Rattle.announcing.proofs.put_line.Statement.{statement}
 use Rattle.announcing.proofs.put_line.Tie as tie
 
--- there is room for what closed, its word and the mended bytes
-heading-fits : (c : tie.After-put-heading)
-    → let a = c .before .before .before .before .args in
-    a .at + (length (headingText (a .page .magazine) (a .page .header) ++ a .word .now) + mendedSize) ≤ length (a .room .now)
-unfolding headingText
-heading-fits c =
-    let start = c .before .before .before .before in
-    let both = length-append (headingText (start .args .page .magazine) (start .args .page .header)) (start .args .word .now) in
-    omega (arith, start .pre)
+-- where the function starts
+abbrev start-of : tie.After-line-of → tie.Start
+start-of c = c .before .before .before
 
-put-heading-requires : tie.Need-put-heading-requires
-put-heading-requires c κs = search needs
+text-is : (c : tie.After-line-of)
+    → let a = start-of c .args in take (c .line-of .result .used) (c .line-of .result .bytes) ≡ pageLine (a .word) (a .mended) (a .page)
+text-is c = let a = start-of c .args in line-is (a .word) (a .page .magazine) (a .page .header) (a .mended) (c .line-of .ensures .0)
 
-put-mended-requires : tie.Need-put-mended-requires
-put-mended-requires c κs =
+line-of-requires : tie.Need-line-of-requires
+line-of-requires c κs = search needs
+
+array-share-prefix-bytes : tie.Need-array-share-prefix-bytes
+array-share-prefix-bytes c = search needs
+
+slice-aggregate-put : tie.Need-slice-aggregate-put
+slice-aggregate-put c =
     let call = c .before .before .before in
-    let heading = call .put-heading .ensures in
-    let fits = heading-fits call in
-    let same = same-room heading (omega arith) in
-    let ends = heading .ends in
-    omega arith
+    let a = start-of call .args in
+    line-counted (a .word) (a .page .magazine) (a .page .header) (a .mended) (call .line-of .ensures .0)
+
+put-requires : tie.Need-put-requires
+put-requires c κs =
+    let call = c .before .before .before in
+    let start = start-of call in
+    let a = start .args in
+    let size = ap length (text-is call) in
+    let short = line-length (a .word) (a .page .magazine) (a .page .header) (a .mended) (omega arith) in
+    omega (arith, start .pre)
 
 same-length : tie.Need-same-length
 same-length c = search needs
 
 returns : tie.Need-returns
-unfolding lineText
-returns c =
-    let call = c .before .before .before .before .before .before in
-    let fits = heading-fits call in
-    let a = call .before .before .before .before .args in
-    as-text (put-then (call .put-heading .ensures) (omega arith) (c .before .before .put-mended .ensures))
-    (append-assoc (headingText (a .page .magazine) (a .page .header)) (a .word .now) (mendedText (a .mended)))
+returns c = as-text (c .before .before .put .ensures) (text-is (c .before .before .before .before .before .before))
 
 pub put-line-spec : {M : Type 1} → statement M
-put-line-spec = tie.close (tie.spec put-heading-requires put-mended-requires same-length returns)
+put-line-spec =
+    tie.close
+    (tie.spec
+    line-of-requires
+    array-share-prefix-bytes
+    slice-aggregate-put
+    put-requires
+    same-length
+    returns)

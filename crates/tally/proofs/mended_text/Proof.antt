@@ -1,8 +1,9 @@
 -- `tally::mended_text` meets its contract: a number and its word, put into zeros.
 use native.Mathlib.Omega.{arith}
 use borrow.Author.Needs.{needs}
+use Rattle.texts.proofs.Growing.{and-then, fits, is-counted, is-held, none-yet}
 use Rattle.tally.specs.Tally.{mendedHeld, mendedSize, mendedText}
-use Rattle.tally.proofs.Tallying.{and-then, fits, is-counted, is-held, mended-length, none-yet}
+use Rattle.tally.proofs.Tallying.{mended-length}
 use Rattle.tally.proofs.mended_text.Statement.{statement}
 use Rattle.tally.proofs.mended_text.Tie as tie
 

@@ -7,9 +7,10 @@ use lib.ListN.{length}
 use Rattle.laws.specs.Text.{lineFeed}
 use Rattle.texts.specs.Decimal.{decimal, mostDigits}
 use Rattle.texts.proofs.Decimal.{word-digits}
+use Rattle.texts.proofs.Growing.{Grown, and-then, fits, has-room, is-counted, is-held, none-yet}
 use Rattle.texts.proofs.Putting.{put-fits}
 use Rattle.tally.specs.Tally.{byteMended, bytesMended, countText, inWord, lineWord, linesWord, ofWord, shareHeld, shareSize, shareText}
-use Rattle.tally.proofs.Tallying.{Grown, and-then, count-length, fits, has-room, is-counted, is-held, none-yet}
+use Rattle.tally.proofs.Tallying.{count-length}
 use Rattle.tally.proofs.share_text.Statement.{statement}
 use Rattle.tally.proofs.share_text.Tie as tie
 

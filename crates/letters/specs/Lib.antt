@@ -1,0 +1,5 @@
+pub mod Sets
+pub mod Utf8
+pub mod Said
+pub mod Laws
+pub mod Private
