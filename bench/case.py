@@ -2,12 +2,13 @@
 """What the programs `cost` and `cost_pages` are given for a piece of work: case.py WORK COUNT, with the way before the work where there are several.
 
     lines: (value | lent | recording) (other | stored | opening | closing | pair) COUNT
-    fields: search (15 | 30 | 60) COUNT      records: (write | read) page COUNT      pages: page (letters | controls | doubles | headlines) COUNT
+    fields: search (15 | 30 | 60) COUNT      pages: page (letters | controls | doubles | headlines) COUNT
+    records: write page COUNT, or read (page | old) COUNT, of which old is in the old form
     pages printed: (ascii | english | german) (letters | controls | doubles | headlines | national) COUNT
-    pages sent: send (every | none) COUNT, with every row from 1 to 23 or none of them
+    pages sent: send (every | none) COUNT, with every row from 1 to 24 or none of them
 
 The bytes come from the file `input` beside this script, and are no constants of the program, so that nothing is worked out beforehand: five pairs of data-lines, which
-are taken in turn, two rows of codes, of which pages are made, a field of 60 units, and the record of a page with a header and one row.
+are taken in turn, two rows of codes, of which pages are made, a field of 60 units, and the record of a page with a header and one row, in the new form.
 """
 import os
 import sys
@@ -29,19 +30,23 @@ LINES = {
 }
 WAYS = {"value": b"l", "lent": b"m", "recording": b"r"}
 FIELDS = {"15": 691, "30": 1381, "60": 2761}
-COLUMNS = 40
+ROWS, COLUMNS = 25, 40
 LETTERS = INPUT[450:450 + COLUMNS]
 MOSAICS = INPUT[490:490 + COLUMNS]
 
-# A page of 24 rows of letters; of control codes and mosaics, without and with a 0D in each row, so that in the second every other row is a lower one; of letters with
+# A page of 25 rows of letters; of control codes and mosaics, without and with a 0D in each row, so that in the second every other row is a lower one; of letters with
 # a double-height headline on rows 1, 3, and so on to 21; and of one national code alone, in English an arrow of three bytes.
 PAGES = {
-    "letters": 24 * LETTERS,
-    "controls": 24 * MOSAICS.replace(b"\x0d", b"\x00"),
-    "doubles": 24 * MOSAICS,
-    "headlines": 11 * (LETTERS + b"\x0d" + LETTERS[1:]) + 2 * LETTERS,
-    "national": 24 * COLUMNS * b"[",
+    "letters": ROWS * LETTERS,
+    "controls": ROWS * MOSAICS.replace(b"\x0d", b"\x00"),
+    "doubles": ROWS * MOSAICS,
+    "headlines": 11 * (LETTERS + b"\x0d" + LETTERS[1:]) + (ROWS - 22) * LETTERS,
+    "national": ROWS * COLUMNS * b"[",
 }
+
+# The record; and in the old form, which has the row code 0 and no row 24, of 45 bytes.
+RECORD = INPUT[3291:]
+RECORDS = {"page": RECORD, "old": RECORD[:4] + bytes([RECORD[4] & 0xF0]) + RECORD[5:-45]}
 
 
 def framed(work, count, data):
@@ -66,9 +71,9 @@ def main(way, work, count):
         return on_lines(way, work, count)
     return {
         "search": lambda: framed(b"f", count, INPUT[530:530 + FIELDS.get(work, 0)]),
-        "write": lambda: framed(b"w", count, INPUT[3291:]),
-        "read": lambda: framed(b"d", count, INPUT[3291:]),
-        "send": lambda: framed(b"t", count, bytes([work == "every"]) + INPUT[3291:]),
+        "write": lambda: framed(b"w", count, RECORD),
+        "read": lambda: framed(b"d", count, RECORDS.get(work, b"")),
+        "send": lambda: framed(b"t", count, bytes([work == "every"]) + RECORD),
         "page": lambda: framed(b"g", count, PAGES.get(work, b"")),
         "ascii": lambda: framed(b"a", count, PAGES.get(work, b"")),
         "english": lambda: framed(b"u", count, b"\x00\x00" + PAGES.get(work, b"")),

@@ -1,33 +1,14 @@
 //! Cases of sorts i (a number's UTF-8 form), c (a code's letter) and o (a page as text). Those that are
 //! counted out are made in every run; the others are random.
 
-use crate::case_pages::{lawful_page, page, spoil, SPOILINGS};
+use crate::case_pages::{last_rows, lawful_page, page, spoil, SETS_OF_LAST_ROWS, SPOILINGS};
+use crate::counted::{count_of, made};
 use crate::national::{letter, THIRTEEN, VALUES};
 use crate::random::Random;
 use crate::record::{CELLS, COLUMNS, ROWS};
 
 /// A maker of inputs, by their number.
-type Maker = fn(u64, &mut Random) -> Vec<u8>;
-
-/// Makers of inputs that are counted out, each with how many it makes.
-type CountedOut = [(u64, Maker)];
-
-/// How many inputs are counted out.
-fn count_of(counted_out: &CountedOut) -> u64 {
-    counted_out.iter().map(|(count, _)| count).sum()
-}
-
-/// The input with this number: first those that are counted out, then those of the other maker.
-fn input(counted_out: &CountedOut, then: Maker, i: u64, random: &mut Random) -> Vec<u8> {
-    let mut left = i;
-    for (count, maker) in counted_out {
-        if left < *count {
-            return maker(left, random);
-        }
-        left -= count;
-    }
-    then(left, random)
-}
+type Maker = crate::counted::Maker<Vec<u8>>;
 
 /// One of the thirteen codes.
 fn national_code(random: &mut Random) -> u8 {
@@ -117,7 +98,7 @@ pub fn numbers_counted_out() -> u64 {
 
 /// Sort i.
 pub fn number(i: u64, random: &mut Random) -> Vec<u8> {
-    input(&NUMBERS, some_number, i, random)
+    made(&NUMBERS, some_number, i, random)
 }
 
 /// Every code under every value.
@@ -153,7 +134,7 @@ pub fn codes_counted_out() -> u64 {
 
 /// Sort c.
 pub fn code(i: u64, random: &mut Random) -> Vec<u8> {
-    input(&CODES, some_letter, i, random)
+    made(&CODES, some_letter, i, random)
 }
 
 /// Rows of codes, each filled with spaces, and rows of spaces after the last.
@@ -209,7 +190,8 @@ fn held_at(first: u8) -> Vec<u8> {
 }
 
 /// Under every value a page of all codes: in letters, in mosaics, in headlines of both, and control codes that
-/// show a held mosaic. 0D is on row 22; below it and below the headlines stand letters that are not shown.
+/// show a held mosaic. 0D is on row 22; below it and below the headlines stand letters that are not shown. Row 24
+/// has national letters and held mosaics, 0D among them.
 fn each_page_of_all_codes(i: u64, random: &mut Random) -> Vec<u8> {
     let not_shown = page_full_of(THIRTEEN.as_bytes())[..COLUMNS].to_vec();
     let mut rows = every_code_after(&[0x03]);
@@ -218,7 +200,15 @@ fn each_page_of_all_codes(i: u64, random: &mut Random) -> Vec<u8> {
         rows.extend([headline, not_shown.clone()]);
     }
     rows.extend([held_at(0x00), held_at(0x10), held_at(0x18), AMONG_CONTROL_CODES.to_vec(), held_at(0x08), not_shown]);
+    rows.push([THIRTEEN.as_bytes(), &held_at(0x08)].concat());
     [&control_with(i as u16, random)[..], &page_of(&rows)].concat()
+}
+
+/// 0D on every set of the last rows, among national letters.
+fn each_set_of_last_rows(i: u64, random: &mut Random) -> Vec<u8> {
+    let mut codes = last_rows(i, 0, random);
+    put_national_codes(&mut codes, random);
+    [&some_control(random)[..], &codes].concat()
 }
 
 /// A page refused in every manner, with value 7 and with one that has a set.
@@ -234,9 +224,10 @@ fn each_short_page(i: u64, _: &mut Random) -> Vec<u8> {
     [0x07][..i as usize].to_vec()
 }
 
-const PAGES: [(u64, Maker); 4] = [
+const PAGES: [(u64, Maker); 5] = [
     (3 * VALUES as u64, each_full_page),
     (VALUES as u64, each_page_of_all_codes),
+    (SETS_OF_LAST_ROWS, each_set_of_last_rows),
     (2 * SPOILINGS, each_refused_page),
     (2, each_short_page),
 ];
@@ -251,7 +242,7 @@ fn put_national_codes(codes: &mut [u8], random: &mut Random) {
     }
 }
 
-/// 960 codes with national ones among them.
+/// The codes of a page with national ones among them.
 pub fn lawful_national_page(i: u64, random: &mut Random) -> Vec<u8> {
     let mut codes = lawful_page(i, random);
     put_national_codes(&mut codes, random);
@@ -272,5 +263,5 @@ pub fn pages_counted_out() -> u64 {
 
 /// Sort o.
 pub fn page_as_text(i: u64, random: &mut Random) -> Vec<u8> {
-    input(&PAGES, some_page, i, random)
+    made(&PAGES, some_page, i, random)
 }

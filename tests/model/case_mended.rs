@@ -4,11 +4,12 @@
 
 use crate::bits::{decode, turned, Decoded, SENT};
 use crate::case_receivers::*;
+use crate::counted::{count_of, made, Maker};
 use crate::packet::{address, Address};
 use crate::random::Random;
 use crate::receiver::{new_receiver, Receiver, Selection};
-use crate::record::RECORD_LENGTH;
-use crate::send::{address_messages, any_selection, line_of};
+use crate::record::{OLD, RECORD_LENGTH};
+use crate::send::{address_messages, any_selection, line_of, LAST_SHOWN};
 use crate::text::{receiver_bytes, step, Case};
 
 /// A line that is to have so many mended bytes.
@@ -78,13 +79,13 @@ fn each_pair(i: u64, random: &mut Random) -> Case {
     recordings(&new_receiver(&Selection { magazine: 8, ..selection }).1, &lines, random)
 }
 
-/// Every pair that is the address of a row 1 to 23 of ours, with a page open: lines of kind 1, so that the
+/// Every pair that is the address of a row 1 to 24 of ours, with a page open: lines of kind 1, so that the
 /// sum over the page's own lines tells them.
 fn each_stored_pair(i: u64, random: &mut Random) -> Case {
     let mut receiver = lawful(true, random);
     receiver.selection.magazine = 1;
     let mut stored = pairs();
-    stored.retain(|(_, pair)| matches!(address_of(*pair), Address::Whole { magazine: 1, row: 1..=23 }));
+    stored.retain(|(_, pair)| matches!(address_of(*pair), Address::Whole { magazine: 1, row: 1..=LAST_SHOWN }));
     let line = |(count, pair): &(usize, (u8, u8))| {
         let eight = [0; 8].map(|_| corrected_byte(random));
         (*count, line_with(*pair, &eight, random))
@@ -122,13 +123,13 @@ fn each_mix(i: u64, magazine: u8, random: &mut Random) -> Case {
     recordings(&new_receiver(&selection).1, &lines, random)
 }
 
-/// How many cases each of these fills: a case has room for 1,413 lines.
+/// How many cases each of these fills: a case has room for 1,411 lines.
 const CASES_OF_PAIRS: u64 = 64;
 const CASES_OF_STORED_PAIRS: u64 = 2;
 const CASES_OF_MIXES: u64 = 6;
 
 /// What is counted out: how many cases, and their maker.
-const COUNTED_OUT: [(u64, fn(u64, &mut Random) -> Case); 4] = [
+const COUNTED_OUT: [(u64, Maker<Case>); 4] = [
     (CASES_OF_PAIRS, each_pair),
     (CASES_OF_STORED_PAIRS, each_stored_pair),
     (CASES_OF_MIXES, |i, random| each_mix(i, 5, random)),
@@ -137,7 +138,7 @@ const COUNTED_OUT: [(u64, fn(u64, &mut Random) -> Case); 4] = [
 
 /// How many runs are counted out.
 pub fn counted_out() -> u64 {
-    COUNTED_OUT.iter().map(|(count, _)| count).sum()
+    count_of(&COUNTED_OUT)
 }
 
 /// A receiver of any state; one in eight is not lawful, so that its lines are refused by 18.
@@ -191,7 +192,8 @@ fn some_step(receiver: &Receiver, random: &mut Random) -> Vec<u8> {
 fn some_run(i: u64, random: &mut Random) -> Case {
     let receiver = some_receiver(i, random);
     let too_short = random.once_in(8);
-    let record = if too_short { random.pick(&[0, 1, 1084]) } else { random.pick(&[1085, 1085, 1086]) };
+    let long_enough = random.pick(&[RECORD_LENGTH, RECORD_LENGTH, RECORD_LENGTH + 1]);
+    let record = if too_short { random.pick(&[0, OLD.length, RECORD_LENGTH - 1]) } else { long_enough };
     let steps = if too_short || i % 8 == 7 { random.between(2, 6) } else { random.between(12, 30) };
     let mut input = receiver_bytes(&receiver);
     for _ in 0..steps {
@@ -202,12 +204,5 @@ fn some_run(i: u64, random: &mut Random) -> Case {
 
 /// First those that are counted out, then random ones.
 pub fn run(i: u64, random: &mut Random) -> Case {
-    let mut left = i;
-    for (count, maker) in COUNTED_OUT {
-        if left < count {
-            return maker(left, random);
-        }
-        left -= count;
-    }
-    some_run(left, random)
+    made(&COUNTED_OUT, some_run, i, random)
 }

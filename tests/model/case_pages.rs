@@ -1,7 +1,8 @@
 //! Cases of sort g: pages of codes to be displayed. Those of sort o are made of them too.
 
+use crate::counted::{count_of, made, Maker};
 use crate::random::Random;
-use crate::record::{CELLS, COLUMNS, ROWS};
+use crate::record::{CELLS, COLUMNS, OLD, ROWS};
 
 /// Colours, mosaics, hold and release, sizes, contiguous and separated, among mosaics.
 const HOLDING: [u8; 22] = [
@@ -127,7 +128,7 @@ fn without_0d(row: &mut [u8]) {
 /// Several rows running, of which the first is at the page's ends more often than elsewhere.
 fn some_rows_running(random: &mut Random) -> Vec<usize> {
     let any = random.below(ROWS as u64) as usize;
-    let first = random.pick(&[0, 1, 2, 18, 19, 20, 21, 22, any, any, any, any]);
+    let first = random.pick(&[0, 1, 2, 19, 20, 21, 22, 23, any, any, any, any]);
     (first..first + random.between(2, 5) as usize).filter(|row| *row < ROWS).collect()
 }
 
@@ -145,8 +146,8 @@ fn rows_with_0d(placing: u64, random: &mut Random) -> Option<Vec<usize>> {
             Some((0..ROWS).filter(|_| random.once_in(once_in)).collect())
         }
         3 => Some(some_rows_running(random)),
-        4 => Some([0, 1, 2, 21, 22, 23].into_iter().filter(|_| random.once_in(2)).collect()),
-        5 => Some(vec![random.pick(&[0, 1, 21, 22, 23])]),
+        4 => Some([0, 1, 2, 21, 22, 23, 24].into_iter().filter(|_| random.once_in(2)).collect()),
+        5 => Some(vec![random.pick(&[0, 1, 21, 22, 23, 24])]),
         _ => Some(vec![random.below(ROWS as u64) as usize]),
     }
 }
@@ -183,8 +184,8 @@ fn some_rows(i: u64, random: &mut Random) -> Vec<Vec<u8>> {
     (0..ROWS).map(in_manner).collect()
 }
 
-/// 960 codes, with 0D placed in each manner in turn; sometimes the first, the last and another row
-/// have a held mosaic and 0D.
+/// The codes of a page, with 0D placed in each manner in turn; sometimes the first, the last two and
+/// another row have a held mosaic and 0D.
 pub fn lawful_page(i: u64, random: &mut Random) -> Vec<u8> {
     let mut rows = some_rows(i, random);
     if let Some(named) = rows_with_0d(i % PLACINGS, random) {
@@ -193,7 +194,7 @@ pub fn lawful_page(i: u64, random: &mut Random) -> Vec<u8> {
     let all_spaces = i % (MANNERS + 3) == SPACES;
     if !all_spaces && random.once_in(3) {
         let between = random.between(1, 22) as usize;
-        for number in [0, between, 23] {
+        for number in [0, between, 23, 24] {
             held_over_0d(&mut rows[number], random);
         }
     }
@@ -205,7 +206,7 @@ pub const SPOILINGS: u64 = 16;
 
 /// A page that is refused, for its length and for a code past 7F in turn.
 pub fn spoil(codes: &mut Vec<u8>, turn: u64, random: &mut Random) {
-    let lengths = [0, 961, 959, 40, 1000, 920, 1, 1920];
+    let lengths = [0, CELLS + 1, CELLS - 1, COLUMNS, OLD.cells(), CELLS + COLUMNS, 1, 2 * CELLS];
     let past = random.pick(&[0x80, 0xA0, 0xFF]);
     let any = random.below(CELLS as u64) as usize;
     match turn % 8 {
@@ -217,7 +218,71 @@ pub fn spoil(codes: &mut Vec<u8>, turn: u64, random: &mut Random) {
     }
 }
 
-/// Sort g: of twenty pages one is refused.
+/// Codes of these counts: at the borders of a page, of one of 24 rows, and others.
+const COUNTS: [usize; 12] = [
+    0,
+    1,
+    COLUMNS,
+    OLD.cells() - 1,
+    OLD.cells(),
+    OLD.cells() + 1,
+    CELLS - 1,
+    CELLS,
+    CELLS + 1,
+    CELLS + COLUMNS,
+    2 * OLD.cells(),
+    2 * CELLS,
+];
+
+/// Codes of each of these counts.
+fn each_count(i: u64, random: &mut Random) -> Vec<u8> {
+    let mut codes = lawful_page(i, random);
+    codes.resize(COUNTS[i as usize], 0x20);
+    codes
+}
+
+/// The sets of rows 20 to 24, and the manners in which these have a 0D.
+pub const SETS_OF_LAST_ROWS: u64 = 32;
+const MANNERS_OF_LAST_ROWS: u64 = 3;
+
+/// A page on which the rows of a set of rows 20 to 24 have a 0D: somewhere, in column 39, or at a held mosaic.
+pub fn last_rows(set: u64, manner: u64, random: &mut Random) -> Vec<u8> {
+    let mut rows = vec![row(SPACES, random); ROWS];
+    for (place, codes) in rows[20..].iter_mut().enumerate() {
+        *codes = row(IN_PIECES, random);
+        without_0d(codes);
+        match (set >> place & 1, manner) {
+            (0, _) => {}
+            (_, 0) => put_0d(codes, random),
+            (_, 1) => codes[COLUMNS - 1] = 0x0D,
+            _ => {
+                held_over_0d(codes, random);
+                codes[4] = 0x0D;
+            }
+        }
+    }
+    rows.concat()
+}
+
+/// Every set in every manner.
+fn each_set_of_last_rows(i: u64, random: &mut Random) -> Vec<u8> {
+    last_rows(i % SETS_OF_LAST_ROWS, i / SETS_OF_LAST_ROWS, random)
+}
+
+const COUNTED_OUT: [(u64, Maker<Vec<u8>>); 2] =
+    [(COUNTS.len() as u64, each_count), (SETS_OF_LAST_ROWS * MANNERS_OF_LAST_ROWS, each_set_of_last_rows)];
+
+/// How many pages of sort g are counted out.
+pub fn counted_out() -> u64 {
+    count_of(&COUNTED_OUT)
+}
+
+/// Sort g.
+pub fn page_displayed(i: u64, random: &mut Random) -> Vec<u8> {
+    made(&COUNTED_OUT, page, i, random)
+}
+
+/// Any page; of twenty one is refused.
 pub fn page(i: u64, random: &mut Random) -> Vec<u8> {
     let mut codes = lawful_page(i, random);
     if i % 20 == 19 {

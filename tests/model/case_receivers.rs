@@ -1,10 +1,11 @@
 //! Runs of one step: a receiver, a line or packet by one of the entries, and a lent record.
 
 use crate::bits::SENT;
+use crate::case_forms::some_cell;
 use crate::packet::{header, packet_of_line, zero_header};
 use crate::random::Random;
 use crate::receiver::{new_receiver, receive_line, Receiver, Selection, SPACE};
-use crate::record::CELLS;
+use crate::record::{CELLS, OLD, RECORD_LENGTH};
 use crate::send::*;
 use crate::text::{receiver_bytes, step, Case};
 
@@ -12,7 +13,7 @@ use crate::text::{receiver_bytes, step, Case};
 fn run(lines: u64, level: u64, random: &mut Random) -> Receiver {
     let selection = any_selection(random);
     let (_, mut receiver) = new_receiver(&selection);
-    let mut record = vec![0; 1085];
+    let mut record = vec![0; RECORD_LENGTH];
     let mut broadcaster = Broadcaster::new(&selection, 12, random);
     for _ in 0..lines {
         let (row, sent) = broadcaster.next_line(random);
@@ -125,8 +126,7 @@ fn spoil_doubt(receiver: &mut Receiver) {
 
 /// One cell spoiled, or brought to a lawful edge.
 pub fn spoil_cell(characters: &mut [u8], marks: &mut [u8], random: &mut Random) {
-    let any = random.between(8, 959) as usize;
-    let cell = random.pick(&[8, 39, 40, 959, any, any, any]);
+    let cell = some_cell(CELLS, random).max(8);
     let first = random.below(8) as usize;
     match random.below(11) {
         0 => marks[cell] = 3,
@@ -220,7 +220,7 @@ fn our_magazine(selection: &Selection, random: &mut Random) -> u8 {
 }
 
 /// A magazine that is not ours.
-fn other_magazine(ours: u8, random: &mut Random) -> u8 {
+pub fn other_magazine(ours: u8, random: &mut Random) -> u8 {
     (ours - 1 + random.within(1, 7)) % 8 + 1
 }
 
@@ -230,8 +230,9 @@ fn sent_line(receiver: &Receiver, random: &mut Random) -> (u8, Vec<u8>) {
     let ours = our_magazine(selection, random);
     let other = other_magazine(ours, random);
     let words = text(random);
-    let row = random.within(1, 23);
-    let high = random.within(24, 31);
+    let any = random.within(1, LAST_SHOWN);
+    let row = random.pick(&[any, any, any, LAST_SHOWN]);
+    let high = random.within(LAST_SHOWN + 1, LAST_SENT);
     match random.below(20) {
         0..=5 => (0, header_line(ours, &matching_header(selection, random), &words)),
         6..=8 => (0, header_line(ours, &nearly_matching_header(selection, random), &words)),
@@ -245,7 +246,7 @@ fn sent_line(receiver: &Receiver, random: &mut Random) -> (u8, Vec<u8>) {
 }
 
 /// The bytes of an address message that is refused: any of the 112.
-fn refused_byte(random: &mut Random) -> u8 {
+pub fn refused_byte(random: &mut Random) -> u8 {
     SENT[random.below(16) as usize] ^ random.ones(2)
 }
 
@@ -257,9 +258,9 @@ fn address_form(receiver: &Receiver, random: &mut Random) -> Vec<u8> {
     let weight_1 = random.within(0, 1);
     let first_ours = SENT[address_messages(ours, weight_1)[0] as usize];
     let first_other = SENT[address_messages(other, weight_1)[0] as usize];
-    let any_low = random.within(0, 11);
-    let low = SENT[random.pick(&[0, 0, 1, 2, 4, 8, 11, 11, any_low]) as usize];
-    let high = SENT[random.pick(&[12, 12, 13, 14, 15]) as usize];
+    let any_low = random.within(0, 12);
+    let low = SENT[random.pick(&[0, 0, 1, 2, 4, 8, 11, 12, 12, any_low]) as usize];
+    let high = SENT[random.pick(&[13, 13, 14, 15]) as usize];
     let refused = refused_byte(random);
     let refused_too = refused_byte(random);
     let (first, second) = match random.below(9) {
@@ -344,12 +345,11 @@ pub fn spoiled_or_not(mut line: Vec<u8>, random: &mut Random) -> Vec<u8> {
 fn lent_record(random: &mut Random) -> Vec<u8> {
     let length = match random.below(20) {
         0 => 0,
-        1..=2 => 1084,
-        3..=14 => 1085,
-        15..=16 => 1086,
-        17 => 1100,
-        18 => random.pick(&[1, 1083, 1087, 2000]),
-        _ => 1085,
+        1..=2 => RECORD_LENGTH - 1,
+        3..=4 => RECORD_LENGTH + 1,
+        5 => OLD.length,
+        6 => random.pick(&[1, OLD.length - 1, OLD.length + 1, RECORD_LENGTH - 2, RECORD_LENGTH + 2, 2000]),
+        _ => RECORD_LENGTH,
     };
     random.bytes(length)
 }

@@ -1,9 +1,11 @@
 //! Cases of sorts w (pages to be written) and d (records to be read).
 
+use crate::case_forms::{set_row_code, some_cell, some_cell_of, LENGTHS, ROW_CODES, TO_READ, TO_WRITE};
 use crate::case_receivers::{lawful_cells, spoil_cell};
+use crate::counted::{count_of, made};
 use crate::random::Random;
 use crate::receiver::{new_receiver, SPACE};
-use crate::record::{record_of, zero_page, Page, CELLS, RECORD_LENGTH};
+use crate::record::{record_of, zero_page, Page, CELLS, FORMS, OLD, RECORD_LENGTH};
 use crate::send::{any_selection, matching_header};
 use crate::text::{page_bytes, Case};
 
@@ -32,9 +34,8 @@ pub fn lawful_page(random: &mut Random) -> Page {
 }
 
 /// A part too large for its bits (24).
-fn part_too_large(page: &mut Page, random: &mut Random) {
-    let any = random.below(960) as usize;
-    let cell = random.pick(&[0, 7, 8, 40, 959, any]);
+pub fn part_too_large(page: &mut Page, random: &mut Random) {
+    let cell = some_cell(CELLS, random);
     match random.below(10) {
         0 => page.magazine = random.pick(&[0, 9, 15, 16, 255]),
         1 => page.header.tens = random.pick(&[16, 25, 255]),
@@ -50,7 +51,7 @@ fn part_too_large(page: &mut Page, random: &mut Random) {
 }
 
 /// A page digit above 9 (22).
-fn digit_above_9(page: &mut Page, random: &mut Random) {
+pub fn digit_above_9(page: &mut Page, random: &mut Random) {
     if random.once_in(2) {
         page.header.tens = random.within(10, 15);
     } else {
@@ -59,9 +60,8 @@ fn digit_above_9(page: &mut Page, random: &mut Random) {
 }
 
 /// A cell refused by 23 and not by 24.
-fn cell_23(page: &mut Page, random: &mut Random) {
-    let any = random.below(960) as usize;
-    let cell = random.pick(&[0, 7, 8, 39, 40, 959, any]);
+pub fn cell_23(page: &mut Page, random: &mut Random) {
+    let cell = some_cell(CELLS, random);
     let first = random.below(8) as usize;
     match random.below(4) {
         0 => page.marks[cell] = 3,
@@ -98,8 +98,8 @@ fn page_of_anything(random: &mut Random) -> Page {
     page
 }
 
-/// Sort w: pages lawful, spoiled by one cause, by two, and anything; several lent lengths.
-pub fn page_to_write(i: u64, random: &mut Random) -> Case {
+/// Pages lawful, spoiled by one cause, by two, and anything; several lent lengths.
+fn some_page_to_write(i: u64, random: &mut Random) -> Case {
     let mut page = lawful_page(random);
     match i % 12 {
         0..=2 => {}
@@ -115,9 +115,19 @@ pub fn page_to_write(i: u64, random: &mut Random) -> Case {
         }
         _ => page = page_of_anything(random),
     }
-    let length = random.pick(&[0, 1084, 1085, 1085, 1085, 1085, 1085, 1085, 1086, 1090]);
-    let record = random.bytes(length);
-    Case::lent('w', page_bytes(&page), record)
+    let any = random.pick(&LENGTHS);
+    let length = random.pick(&[any, OLD.length, RECORD_LENGTH - 1, RECORD_LENGTH + 1, RECORD_LENGTH, RECORD_LENGTH]);
+    Case::lent('w', page_bytes(&page), random.bytes(length))
+}
+
+/// How many pages to be written are counted out.
+pub fn to_write_counted_out() -> u64 {
+    count_of(&TO_WRITE)
+}
+
+/// Sort w.
+pub fn page_to_write(i: u64, random: &mut Random) -> Case {
+    made(&TO_WRITE, some_page_to_write, i, random)
 }
 
 /// Put so many bits into a record, most significant first.
@@ -135,15 +145,14 @@ pub fn set_cell(record: &mut [u8], cell: usize, mark: u16, character: u16) {
     set_bits(record, 42 + 9 * cell, 7, character);
 }
 
-/// One part of a record spoiled: zero bits, digits, marks, first columns, mark 0 with a character.
+/// One part of a record spoiled: row code, digits, marks, first columns, mark 0 with a character.
 fn spoil_record(record: &mut [u8], random: &mut Random) {
-    let any = random.below(960) as usize;
-    let cell = random.pick(&[0, 7, 8, 39, 40, 958, 959, any, any]);
+    let cell = some_cell_of(record, random);
     let first = random.below(8) as usize;
     let character = random.below(128) as u16;
     match random.below(10) {
-        0 => set_bits(record, 36 + random.below(4) as usize, 1, 1),
-        1 => set_bits(record, 36, 4, random.between(1, 15) as u16),
+        0 => record[4] ^= 1 << random.below(4),
+        1 => set_row_code(record, random.below(ROW_CODES as u64) as u16),
         2 => set_bits(record, 3, 4, random.between(9, 15) as u16),
         3 => set_bits(record, 7, 4, random.between(9, 15) as u16),
         4 => set_cell(record, cell, 3, character),
@@ -155,9 +164,10 @@ fn spoil_record(record: &mut [u8], random: &mut Random) {
     }
 }
 
-/// Records as written, with one part or two spoiled, a bit changed, random, wrong lengths.
+/// Records of both forms, with one part or two spoiled, a bit changed, random, other lengths.
 pub fn some_record(i: u64, random: &mut Random) -> Vec<u8> {
-    let mut record = record_of(&lawful_page(random));
+    let form = random.pick(&FORMS);
+    let mut record = record_of(&lawful_page(random), &form);
     match i % 14 {
         0..=2 => {}
         3..=6 => spoil_record(&mut record, random),
@@ -166,15 +176,15 @@ pub fn some_record(i: u64, random: &mut Random) -> Vec<u8> {
             spoil_record(&mut record, random);
         }
         9..=10 => {
-            let bytes = random.pick(&[5, 16, 1085]);
+            let bytes = random.pick(&[5, 16, form.length as u64]);
             record[random.below(bytes) as usize] ^= 1 << random.below(8);
         }
-        11 => record = random.bytes(RECORD_LENGTH),
+        11 => record = random.bytes(form.length),
         12 => {
             if random.once_in(2) {
                 spoil_record(&mut record, random);
             }
-            record.resize(random.pick(&[0, 1, 5, 1040, 1084, 1084, 1086, 1086, 2170]), 0);
+            record.resize(random.pick(&LENGTHS), 0);
         }
         _ => {
             let first_five = random.bytes(5);
@@ -184,7 +194,12 @@ pub fn some_record(i: u64, random: &mut Random) -> Vec<u8> {
     record
 }
 
+/// How many records to be read are counted out.
+pub fn to_read_counted_out() -> u64 {
+    count_of(&TO_READ)
+}
+
 /// Sort d.
 pub fn record_to_read(i: u64, random: &mut Random) -> Case {
-    Case::lent('d', some_record(i, random), Vec::new())
+    made(&TO_READ, |i, random| Case::lent('d', some_record(i, random), Vec::new()), i, random)
 }

@@ -1,13 +1,15 @@
 //! Cases of sorts k (packets to be sent) and t (pages to be sent). Those of sort t that are counted
 //! out are made in every run; the others are random.
 
-use crate::case_records::{lawful_page, set_bits, set_cell, some_record};
+use crate::case_forms::{as_old, spoil_by, SETS_OF_CAUSES};
+use crate::case_records::{lawful_page, set_bits, some_record};
+use crate::counted::{count_of, made, Maker};
 use crate::random::Random;
 use crate::receiver::{NEVER, SPACE};
-use crate::record::{record_of, Page, COLUMNS, RECORD_LENGTH, ROWS};
+use crate::record::{record_of, Form, Page, COLUMNS, FORMS, NEW, OLD, ROWS};
 use crate::send::{any_header, text};
 use crate::text::{header_bytes, Case};
-use crate::transmission::{room_needed, Wanted, CHOOSABLE};
+use crate::transmission::{room_needed, Wanted, CHOOSABLE, LINE_LENGTH};
 
 const NONE: Wanted = [false; CHOOSABLE];
 const ALL: Wanted = [true; CHOOSABLE];
@@ -50,14 +52,22 @@ pub fn page_to_send(random: &mut Random) -> Page {
     page
 }
 
-/// The record of a lawful page.
+/// A lawful page as its record has it, in either form, and that form.
+pub fn page_in_a_form(random: &mut Random) -> (Page, Form) {
+    let (page, form) = (page_to_send(random), random.pick(&FORMS));
+    (if form == OLD { as_old(page) } else { page }, form)
+}
+
+/// The record of a lawful page, in either form.
 fn lawful_record(random: &mut Random) -> Vec<u8> {
-    record_of(&page_to_send(random))
+    let (page, form) = page_in_a_form(random);
+    record_of(&page, &form)
 }
 
 /// Some rows: about half, few, many, several running, none, all.
 pub fn some_choice(random: &mut Random) -> Wanted {
-    let (one, other) = (random.below(23) as usize, random.below(23) as usize);
+    let mut row = || random.below(CHOOSABLE as u64) as usize;
+    let (one, other) = (row(), row());
     match random.below(8) {
         0..=2 => ALL.map(|_| random.once_in(2)),
         3 => ALL.map(|_| random.once_in(6)),
@@ -100,7 +110,7 @@ fn choices() -> Vec<Wanted> {
     out
 }
 
-const CHOICES: u64 = 2 + 23 + 23 + 23 * 22 / 2;
+const CHOICES: u64 = (2 + 2 * CHOOSABLE + CHOOSABLE * (CHOOSABLE - 1) / 2) as u64;
 
 /// Each of the choices, with room enough.
 fn each_choice(i: u64, random: &mut Random) -> Case {
@@ -124,64 +134,66 @@ fn each_room_around(i: u64, random: &mut Random) -> Case {
     case_of(&wanted, &lawful_record(random), room, random)
 }
 
-/// Rooms of lengths at the edges of one line and of 24.
-const FIXED_ROOMS: [usize; 7] = [0, 44, 45, 1079, 1080, 1081, 1200];
+/// A room for all lines, the header's and those of all rows.
+const ROOM_FOR_ALL: usize = LINE_LENGTH * ROWS;
 
-/// Each of these rooms, for no rows, the first, the last, all but one, and all.
+/// Rooms of lengths at the edges of one line, of all but one and of all, and a longer one.
+const FIXED_ROOMS: [usize; 10] = [
+    0,
+    LINE_LENGTH - 1,
+    LINE_LENGTH,
+    ROOM_FOR_ALL - LINE_LENGTH - 1,
+    ROOM_FOR_ALL - LINE_LENGTH,
+    ROOM_FOR_ALL - LINE_LENGTH + 1,
+    ROOM_FOR_ALL - 1,
+    ROOM_FOR_ALL,
+    ROOM_FOR_ALL + 1,
+    ROOM_FOR_ALL + 75,
+];
+
+/// Each of these rooms, for no rows, the first, the last, all but one, all but the last, and all.
 fn each_fixed_room(i: u64, random: &mut Random) -> Case {
-    let room = FIXED_ROOMS[(i % 7) as usize];
-    let wanted = match i / 7 {
+    let rooms = FIXED_ROOMS.len() as u64;
+    let wanted = match i / rooms {
         0 => NONE,
         1 => turned_round(NONE, &[1]),
-        2 => turned_round(NONE, &[23]),
+        2 => turned_round(NONE, &[CHOOSABLE]),
         3 => turned_round(ALL, &[12]),
+        4 => turned_round(ALL, &[CHOOSABLE]),
         _ => ALL,
     };
-    case_of(&wanted, &lawful_record(random), room, random)
+    case_of(&wanted, &lawful_record(random), FIXED_ROOMS[(i % rooms) as usize], random)
 }
 
-/// A cell refused by 23: mark 3, a character that was never received, a mark in the first columns.
-fn spoil_cell_23(record: &mut [u8], random: &mut Random) {
-    let any = random.below(960) as usize;
-    let cell = random.pick(&[0, 7, 8, 39, 40, 959, any, any]);
-    let first = random.below(8) as usize;
-    match random.below(3) {
-        0 => set_cell(record, cell, 3, random.below(128) as u16),
-        1 => set_cell(record, cell, 0, random.pick(&[0, 0x1F, 0x21, 0x41, 0x60, 0x7F])),
-        _ => set_cell(record, first, random.pick(&[1, 2]), random.pick(&[0x20, 0x20, 0x41])),
-    }
+/// Row 24 chosen and not, of each form, with the room needed and with one byte less: alone, with row 23, with all,
+/// row 23 alone, all but row 24, none.
+fn each_form(i: u64, random: &mut Random) -> Case {
+    let wanted = match i / 4 {
+        0 => turned_round(NONE, &[CHOOSABLE]),
+        1 => turned_round(NONE, &[CHOOSABLE - 1, CHOOSABLE]),
+        2 => ALL,
+        3 => turned_round(NONE, &[CHOOSABLE - 1]),
+        4 => turned_round(ALL, &[CHOOSABLE]),
+        _ => NONE,
+    };
+    let record = record_of(&page_to_send(random), &FORMS[(i % 2) as usize]);
+    case_of(&wanted, &record, room_needed(&wanted) - (i / 2 % 2) as usize, random)
 }
 
-/// Spoil a record by causes, each named by its bit: 2 is 21, 4 is 22, 8 is 23, and 1 is 20, which
-/// comes last so that the others stay.
-fn spoil_by(record: &mut Vec<u8>, causes: u64, random: &mut Random) {
-    if causes & 2 != 0 {
-        set_bits(record, 36, 4, random.between(1, 15) as u16);
-    }
-    if causes & 4 != 0 {
-        set_bits(record, random.pick(&[3, 7]), 4, random.between(10, 15) as u16);
-    }
-    if causes & 8 != 0 {
-        spoil_cell_23(record, random);
-    }
-    if causes & 1 != 0 {
-        record.resize(random.pick(&[1084, 1086, 1084, 1086, 1040, 2170, 5, 0]), 0);
-    }
-}
-
-/// All sets of the causes 20, 21, 22, 23 and 30, so many times each.
-const SETS_OF_CAUSES: u64 = 32;
+/// All sets of the causes 20, 21, 22, 23 and 30, so many times each in each form.
+const SETS_WITH_30: u64 = 2 * SETS_OF_CAUSES;
 const TIMES_EACH: u64 = 4;
 
-/// A record spoiled by every set of causes; the bit 16 is 30, a room too short.
+/// A record of each form spoiled by every set of causes; the bit past the others' is 30, a room too short.
 fn each_set_of_causes(i: u64, random: &mut Random) -> Case {
-    let causes = i % SETS_OF_CAUSES;
-    let mut record = lawful_record(random);
+    let causes = i % SETS_WITH_30;
+    let mut record = record_of(&page_to_send(random), &FORMS[(i / SETS_WITH_30 % 2) as usize]);
     spoil_by(&mut record, causes, random);
     let wanted = some_choice(random);
     let needed = room_needed(&wanted);
     let any_too_short = random.below(needed as u64) as usize;
-    let room = if causes & 16 != 0 { random.pick(&[0, needed - 45, needed - 1, any_too_short]) } else { needed };
+    let too_short = random.pick(&[0, needed - LINE_LENGTH, needed - 1, any_too_short]);
+    let room = if causes & SETS_OF_CAUSES != 0 { too_short } else { needed };
     case_of(&wanted, &record, room, random)
 }
 
@@ -213,36 +225,48 @@ fn each_value(i: u64, random: &mut Random) -> Case {
     case_of(&wanted, &record, room_needed(&wanted), random)
 }
 
-/// Inputs that end within WANTED, right after it, within the record, and one byte short.
-const SHORT_INPUTS: [usize; 6] = [0, 1, 22, 23, 24, CHOOSABLE + RECORD_LENGTH - 1];
+/// Inputs that end within WANTED, right after it, within the record, where an old one would end, and one byte
+/// short.
+const SHORT_INPUTS: [usize; 8] = [
+    0,
+    1,
+    CHOOSABLE - 1,
+    CHOOSABLE,
+    CHOOSABLE + 1,
+    CHOOSABLE + OLD.length - 1,
+    CHOOSABLE + OLD.length,
+    CHOOSABLE + NEW.length - 1,
+];
 
-/// Each of these inputs, with room enough for all.
+/// Each of these inputs, cut from one with a new record, with room enough for all.
 fn each_short_input(i: u64, random: &mut Random) -> Case {
-    let mut case = case_of(&ALL, &lawful_record(random), 1200, random);
+    let record = record_of(&page_to_send(random), &NEW);
+    let mut case = case_of(&ALL, &record, ROOM_FOR_ALL, random);
     case.input.truncate(SHORT_INPUTS[i as usize]);
     case
 }
 
 /// What is counted out: how many cases, and their maker.
-const COUNTED_OUT: [(u64, fn(u64, &mut Random) -> Case); 6] = [
+const COUNTED_OUT: [(u64, Maker<Case>); 7] = [
     (CHOICES, each_choice),
     (3 * LENGTHS_AROUND, each_room_around),
-    (5 * 7, each_fixed_room),
-    (SETS_OF_CAUSES * TIMES_EACH, each_set_of_causes),
+    (6 * FIXED_ROOMS.len() as u64, each_fixed_room),
+    (6 * 4, each_form),
+    (2 * SETS_WITH_30 * TIMES_EACH, each_set_of_causes),
     (VALUES + 2 * CONTROL_BITS, each_value),
-    (6, each_short_input),
+    (SHORT_INPUTS.len() as u64, each_short_input),
 ];
 
 /// How many cases of sort t are counted out.
 pub fn counted_out() -> u64 {
-    COUNTED_OUT.iter().map(|(count, _)| count).sum()
+    count_of(&COUNTED_OUT)
 }
 
 /// A room: at the edges, of any length, around the needed length, just that, or longer.
 fn some_room(needed: usize, random: &mut Random) -> usize {
     match random.below(8) {
         0 => random.pick(&FIXED_ROOMS),
-        1 => random.below(1200) as usize,
+        1 => random.below(ROOM_FOR_ALL as u64 + 100) as usize,
         2..=4 => (needed + random.below(LENGTHS_AROUND) as usize).saturating_sub(AROUND),
         5 => needed,
         _ => needed + random.pick(&[1, 44, 45, 46, 90, 300]),
@@ -259,12 +283,5 @@ fn some_page_sent(i: u64, random: &mut Random) -> Case {
 
 /// Sort t: first those that are counted out, then random ones.
 pub fn page_sent(i: u64, random: &mut Random) -> Case {
-    let mut left = i;
-    for (count, maker) in COUNTED_OUT {
-        if left < count {
-            return maker(left, random);
-        }
-        left -= count;
-    }
-    some_page_sent(left, random)
+    made(&COUNTED_OUT, some_page_sent, i, random)
 }

@@ -2,6 +2,7 @@
 
 use crate::random::Random;
 use crate::receiver::{new_receiver, Selection};
+use crate::record::{OLD, RECORD_LENGTH};
 use crate::recording::play;
 use crate::send::{any_selection, damaged, Broadcaster, LEVELS};
 use crate::text::{receiver_bytes, step, Case, LONGEST};
@@ -22,9 +23,9 @@ fn received(selection: &Selection, count: u64, level: u64, random: &mut Random) 
 /// A record to be lent, now and then too short, of any bytes.
 fn some_record(random: &mut Random) -> Vec<u8> {
     let length = match random.below(20) {
-        0 => random.pick(&[0, 1, 1084]),
-        1..=3 => random.pick(&[1086, 1090, 1100]),
-        _ => 1085,
+        0 => random.pick(&[0, OLD.length, RECORD_LENGTH - 1]),
+        1..=3 => random.pick(&[RECORD_LENGTH + 1, RECORD_LENGTH + 5, RECORD_LENGTH + 15]),
+        _ => RECORD_LENGTH,
     };
     random.bytes(length)
 }

@@ -1,16 +1,16 @@
 //! The makers of cases, and how many cases each makes. A maker's letter is the sort that it makes, or, of the runs
-//! (sort r), the entry of their steps. Four letters are neither: e makes runs of lines one by one, and so h (for
+//! (sort r), the entry of their steps. Five letters are neither: e makes runs of lines one by one, and so h (for
 //! Hamming) makes sort e; c makes runs by all entries whose Hamming bytes are corrected, and so v (for the value of
-//! C12 to C14) makes sort c.
+//! C12 to C14) makes sort c; x makes runs by all entries around row 24, the extra one.
 
 use crate::random::Random;
 use crate::text::Case;
 use crate::{
-    case_fields, case_letters, case_lines, case_mended, case_pages, case_receivers, case_records, case_sending,
-    case_sequences,
+    case_fields, case_letters, case_lines, case_mended, case_pages, case_receivers, case_records, case_row_24,
+    case_sending, case_sequences,
 };
 
-pub const MAKERS: &str = "bnaslmpercwdfughktivo";
+pub const MAKERS: &str = "bnaslmpercxwdfughktivo";
 
 /// The share of each maker, in parts of the whole.
 fn weight(maker: char) -> u64 {
@@ -38,8 +38,9 @@ fn weight(maker: char) -> u64 {
     }
 }
 
-/// A page counts as so many cases, since it shows 24 rows at once and has a long answer: displayed (sort g) of 7,681
-/// bytes, as text (sort o) of 2,908. At COUNT 50000 some 310 and 140 are made, of 7,500 and 3,500 rows.
+/// A page counts as so many cases, since it shows 25 rows at once and has a long answer: displayed (sort g) of 8,001
+/// bytes, as text (sort o) of 3,029. At COUNT 50000 some 310 and 140 are made, of 7,800 and 3,600 rows, and besides
+/// those that are always made.
 fn cases_for_one(maker: char) -> u64 {
     match maker {
         'g' => 16,
@@ -48,12 +49,16 @@ fn cases_for_one(maker: char) -> u64 {
     }
 }
 
-/// How many cases a maker makes whatever COUNT is: every byte, and what is counted out of the runs, the pages sent,
-/// the numbers, the letters and the pages as text.
+/// How many cases a maker makes whatever COUNT is: every byte, and what is counted out of the runs, the records
+/// written and read, the pages displayed and sent, the numbers, the letters and the pages as text.
 fn always(maker: char) -> u64 {
     match maker {
         'b' | 'h' => 256,
         'c' => case_mended::counted_out(),
+        'x' => case_row_24::counted_out(),
+        'w' => case_records::to_write_counted_out(),
+        'd' => case_records::to_read_counted_out(),
+        'g' => case_pages::counted_out(),
         't' => case_sending::counted_out(),
         'i' => case_letters::numbers_counted_out(),
         'v' => case_letters::codes_counted_out(),
@@ -82,10 +87,11 @@ pub fn case(maker: char, i: u64, random: &mut Random) -> Case {
         'e' => case_sequences::lines(i, random),
         'r' => case_sequences::recording(i, random),
         'c' => case_mended::run(i, random),
+        'x' => case_row_24::run(i, random),
         'w' => case_records::page_to_write(i, random),
         'd' => case_records::record_to_read(i, random),
         'f' | 'u' => case_fields::field_and_place(maker, i, random),
-        'g' => Case::alone('g', case_pages::page(i, random)),
+        'g' => Case::alone('g', case_pages::page_displayed(i, random)),
         'h' => Case::alone('e', vec![i as u8]),
         'k' => Case::alone('k', case_sending::packets_to_make(i, random)),
         't' => case_sending::page_sent(i, random),

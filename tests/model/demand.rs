@@ -5,8 +5,8 @@ use crate::bits::all_turned;
 use crate::packet::{address, header, packet_of_line, Address, Header};
 use crate::random::Random;
 use crate::receiver::{new_receiver, page_and_time_match, receive_line, Answer, Selection};
-use crate::record::{read_page, Page};
-use crate::send::{any_selection, damaged, Broadcaster};
+use crate::record::{read_page, Page, RECORD_LENGTH};
+use crate::send::{any_selection, damaged, Broadcaster, LAST_SHOWN};
 
 /// One line of a run: as sent, as answered, the record after it, and the damage it suffered.
 struct Step {
@@ -19,7 +19,7 @@ struct Step {
 /// A run of a new receiver with damage 2 throughout; stretches of it have less.
 fn run(selection: &Selection, random: &mut Random) -> Vec<Step> {
     let (_, mut receiver) = new_receiver(selection);
-    let mut record = vec![0; 1085];
+    let mut record = vec![0; RECORD_LENGTH];
     let mut broadcaster = Broadcaster::new(selection, random.pick(&[2, 5, 12]), random);
     let mut level = 0;
     let mut steps = Vec::new();
@@ -101,7 +101,7 @@ fn law_a(steps: &[Step], j: usize, selection: &Selection) -> bool {
         && steps[i].answer.kind == 2
         && page_and_time_match(selection, &sent_header(&steps[i]))
         && header_is_of(&page, &steps[i], selection)
-        && (1..=23).all(|row| {
+        && (1..=LAST_SHOWN).all(|row| {
             let text = last_sent(steps, i, j, selection, row).map(|k| sent_text(&steps[k], 2));
             row_is_of(&page, row, text)
         })

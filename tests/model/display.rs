@@ -1,4 +1,4 @@
-//! Display cells of a page: 24 rows of 40 codes.
+//! Display cells of a page: 25 rows of 40 codes.
 
 use crate::bits::b;
 use crate::record::{CELLS, COLUMNS, ROWS};
@@ -77,7 +77,7 @@ fn start() -> State {
     }
 }
 
-/// 25, which "now asks for the page's 960 codes" of 00 to 7F.
+/// "25 asks for 1,000 codes", of 00 to 7F.
 fn cause_25(codes: &[u8]) -> bool {
     codes.len() != CELLS || codes.iter().any(|code| *code > 0x7F)
 }
@@ -195,16 +195,19 @@ fn row_alone(codes: &[u8]) -> Vec<Cell> {
     cells
 }
 
-/// "On rows 0 and 23 the code 0D does nothing": there it is a control code like 00.
+/// The rows that can be double: not row 0, and "rows 23 and 24 can't be double".
+const CAN_BE_DOUBLE: std::ops::RangeInclusive<usize> = 1..=22;
+
+/// On the other rows "the code 0D does nothing": there it is a control code like 00.
 fn obeyed(row: usize, codes: &[u8]) -> Vec<u8> {
-    let idle = row == 0 || row == 23;
+    let idle = !CAN_BE_DOUBLE.contains(&row);
     codes.iter().map(|code| if idle && *code == 0x0D { 0x00 } else { *code }).collect()
 }
 
 /// "Where a displayed row from 1 to 22 has a 0D code, the row below doesn't show its own
 /// characters": in whatever column the code stands, and whatever comes after it.
 fn takes_the_row_below(row: usize, codes: &[u8]) -> bool {
-    (1..=22).contains(&row) && codes.contains(&0x0D)
+    CAN_BE_DOUBLE.contains(&row) && codes.contains(&0x0D)
 }
 
 /// "Under a double cell it shows that cell's lower half, under any other a space on that cell's
@@ -233,7 +236,7 @@ fn page_cells(codes: &[u8]) -> Vec<Cell> {
     cells
 }
 
-/// The number and the page's 960 cells, row by row.
+/// The number and the page's 1,000 cells, row by row.
 pub fn display(codes: &[u8]) -> (u8, Vec<Cell>) {
     if cause_25(codes) {
         return (25, vec![zero_cell(); CELLS]);

@@ -6,6 +6,9 @@ use crate::laws::{print_over, Law};
 use crate::random::Random;
 use crate::record::{CELLS, COLUMNS, ROWS};
 
+/// The rows on which 0D does nothing.
+const IDLE: [usize; 3] = [0, 23, 24];
+
 /// A page that is displayed: its codes and its cells.
 struct Displayed {
     codes: Vec<u8>,
@@ -36,7 +39,8 @@ impl Displayed {
     /// Is the row taken by the one above it? It is where an odd number of rows with a 0D, of rows 1
     /// to 22, stand right above it.
     fn taken(&self, row: usize) -> bool {
-        (1..row).rev().take_while(|above| self.codes_of(*above).contains(&0x0D)).count() % 2 == 1
+        let has_0d = |above: &usize| !IDLE.contains(above) && self.codes_of(*above).contains(&0x0D);
+        (0..row).rev().take_while(has_0d).count() % 2 == 1
     }
 }
 
@@ -48,22 +52,24 @@ fn alone_among_spaces(codes: &[u8]) -> Vec<Cell> {
     display(&page).1[middle].to_vec()
 }
 
-/// Rows 0 and 23 hold no double cell that they made themselves: asked of each.
+/// Rows 0, 23 and 24 hold no double cell that they made themselves, and row 23 alone can have one made above:
+/// asked of each.
 fn ends(page: &Displayed) -> Vec<bool> {
     let normal = |cell: &Cell| cell.height == Height::Normal;
     let made_above = |cell: &Cell| cell.height == Height::Lower && page.taken(23);
     vec![
         page.cells_of(0).iter().all(normal),
         page.cells_of(23).iter().all(|cell| normal(cell) || made_above(cell)),
+        page.cells_of(24).iter().all(normal),
     ]
 }
 
-/// A row that is not taken is what its codes alone give; on rows 0 and 23 what they give with 00 for
+/// A row that is not taken is what its codes alone give; on rows 0, 23 and 24 what they give with 00 for
 /// 0D. Asked of each such row.
 fn alone(page: &Displayed) -> Vec<bool> {
     let of_row = |row: usize| {
         let mut codes = page.codes_of(row).to_vec();
-        if row == 0 || row == 23 {
+        if IDLE.contains(&row) {
             codes.iter_mut().filter(|code| **code == 0x0D).for_each(|code| *code = 0x00);
         }
         page.cells_of(row) == alone_among_spaces(&codes)

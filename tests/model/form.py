@@ -13,7 +13,7 @@ SORTS = "".join(PROGRAMS.values())
 # A case: its sort, and its parts as bytes: the input and, for `replay`, the record (for sort t the room) that is lent.
 Case = collections.namedtuple("Case", "sort parts")
 
-ROWS = 24
+ROWS = 25
 COLUMNS = 40
 CELLS = ROWS * COLUMNS
 STEP = 3

@@ -130,7 +130,7 @@ fn some_page(i: u64, random: &mut Random) -> Page {
     Page { cells: display(&codes).1, answers, above, refused }
 }
 
-/// The text is UTF-8 of 24 lines of 40 letters, behind it are zeros, and value 7 alone says that English stands
+/// The text is UTF-8 of 25 lines of 40 letters, behind it are zeros, and value 7 alone says that English stands
 /// in: asked of each value.
 fn lines(page: &Page) -> Vec<bool> {
     let holds = |(value, answer): (usize, &Vec<u8>)| {

@@ -1,4 +1,4 @@
-//! An independent model of document 01 and of requests 1 to 4 of document 02: prints seeded cases, each
+//! An independent model of document 01 and of requests 1 to 5 of document 02: prints seeded cases, each
 //! with the answer expected.
 //!
 //! `model SEED COUNT [MAKERS]` prints about COUNT cases, of which a page to be displayed or printed counts
@@ -8,25 +8,30 @@
 //! random runs, `model double SEED COUNT` those on double height over random pages, `model sending
 //! SEED COUNT` those on pages sent and received again, `model mended SEED COUNT` those on mended bytes
 //! over all bytes and over random runs, `model letters SEED COUNT` those on national letters over all
-//! letters, control bits and numbers and over random pages.
+//! letters, control bits and numbers and over random pages, `model forms SEED COUNT` those on the two forms
+//! of the record and on row 24.
 
 mod answers;
 mod bits;
 mod case_fields;
+mod case_forms;
 mod case_letters;
 mod case_lines;
 mod case_mended;
 mod case_pages;
 mod case_receivers;
 mod case_records;
+mod case_row_24;
 mod case_sending;
 mod case_sequences;
 mod cases;
+mod counted;
 mod demand;
 mod display;
 mod double;
 mod examined;
 mod field;
+mod forms;
 mod laws;
 mod letters;
 mod marked;
@@ -45,7 +50,7 @@ mod transmission;
 use std::io::{BufWriter, Write};
 
 /// The words that the program takes.
-const USAGE: &str = "model SEED COUNT [MAKERS] | model marked | model demand|double|sending|mended|letters SEED COUNT";
+const USAGE: &str = "model SEED COUNT [MAKERS] | model marked | model demand|double|sending|mended|letters|forms SEED COUNT";
 
 /// A number from the command line.
 fn number(word: &str) -> u64 {
@@ -75,6 +80,7 @@ fn main() {
         ["sending", seed, count] => sending::print(number(seed), number(count)),
         ["mended", seed, count] => mended::print(number(seed), number(count)),
         ["letters", seed, count] => letters::print(number(seed), number(count)),
+        ["forms", seed, count] => forms::print(number(seed), number(count)),
         [seed, count] => print_cases(number(seed), number(count), cases::MAKERS),
         [seed, count, makers] => print_cases(number(seed), number(count), makers),
         _ => println!("{}", USAGE),

@@ -4,7 +4,7 @@ use crate::bits::{character, decode, framing_passes, Decoded, SENT};
 use crate::display::{display, pattern, Cell, Symbol};
 use crate::packet::{address, zero_header, Address};
 use crate::receiver::{new_receiver, Selection};
-use crate::record::{write_page, Page, CELLS, COLUMNS, ROWS};
+use crate::record::{encoded, write_page, Page, CELLS, COLUMNS, NEW, OLD, RECORD_LENGTH, ROWS};
 
 /// The address of a packet that begins with these bytes (after turning).
 fn address_of(first: u8, second: u8) -> Address {
@@ -22,7 +22,7 @@ fn cells(codes: &[u8], row: usize) -> Vec<Cell> {
     display(&page).1[start..start + COLUMNS].to_vec()
 }
 
-/// Does this hold of the row that begins with these codes, whichever of the 24 it is?
+/// Does this hold of the row that begins with these codes, whichever of the 25 it is?
 fn on_every_row(codes: &[u8], holds: fn(&[Cell]) -> bool) -> bool {
     (0..ROWS).all(|row| holds(&cells(codes, row)))
 }
@@ -76,7 +76,12 @@ fn case_12() -> bool {
     })
 }
 
-/// Case 13.
+/// Does a record start with these five bytes and then with the nine of eight cells never received?
+fn starts(record: &[u8], five: [u8; 5]) -> bool {
+    record[..5] == five && record[5..14] == [0x10, 0x08, 0x04, 0x02, 0x01, 0x00, 0x80, 0x40, 0x20]
+}
+
+/// "Marked case 13 stays as the old form; in the new its fifth byte is 11." The writer makes the new one.
 fn case_13() -> bool {
     let (_, receiver) = new_receiver(&Selection { magazine: 1, tens: 0, units: 0, time: None });
     let page = Page {
@@ -86,11 +91,11 @@ fn case_13() -> bool {
         characters: receiver.characters,
         marks: receiver.marks,
     };
-    let mut record = vec![0xAA; 1085];
-    let number = write_page(&page, &mut record);
-    number == 0
-        && record[..5] == [0x20, 0, 0, 0, 0x10]
-        && record[5..14] == [0x10, 0x08, 0x04, 0x02, 0x01, 0x00, 0x80, 0x40, 0x20]
+    let mut record = vec![0xAA; RECORD_LENGTH];
+    write_page(&page, &mut record) == 0
+        && record == encoded(&page, &NEW)
+        && starts(&record, [0x20, 0, 0, 0, 0x11])
+        && starts(&encoded(&page, &OLD), [0x20, 0, 0, 0, 0x10])
 }
 
 /// Each marked case, in the paper's order.

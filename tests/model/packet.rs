@@ -128,7 +128,7 @@ pub fn header(packet: &[u8]) -> Option<Header> {
     })
 }
 
-/// The last 40 bytes of a packet, turned: rows 1 to 23 carry 40 characters there.
+/// The last 40 bytes of a packet, turned: rows 1 to 24 carry 40 characters there.
 pub fn forty(packet: &[u8]) -> Vec<u8> {
     all_turned(&packet[2..42])
 }

@@ -6,7 +6,7 @@ use crate::packet::{
     address, c4, data_line_refusal, forty, header, packet_of_line, thirty_two, zero_header, Address, Header,
 };
 use crate::record::{
-    cause_23, cell_part_too_large, header_part_too_large, write_page, Page, CELLS, COLUMNS, RECORD_LENGTH,
+    cause_23, cell_part_too_large, header_part_too_large, write_page, Page, CELLS, COLUMNS, RECORD_LENGTH, ROWS,
 };
 
 pub const NEVER: u8 = 0;
@@ -17,6 +17,9 @@ pub const SPACE: u8 = 0x20;
 pub const CLOSED_NONE: u8 = 0;
 pub const CLOSED_CLEAN: u8 = 1;
 pub const CLOSED_DOUBT: u8 = 2;
+
+/// "In kind 4 the harmless second messages start at 13."
+const HARMLESS_FROM: u8 = 13;
 
 /// Hours tens, hours units, minutes tens, minutes units.
 #[derive(Clone, Copy, PartialEq, Debug)]
@@ -157,9 +160,9 @@ pub fn kind_of(receiver: &Receiver, packet: &[u8]) -> u8 {
                 0
             }
         }
-        // "... or a second message of 12 or more, is kind 0 instead."
+        // "... or a second message" that is harmless "is kind 0 instead".
         Address::Second { message } => {
-            if message >= 12 {
+            if message >= HARMLESS_FROM {
                 0
             } else {
                 4
@@ -171,7 +174,7 @@ pub fn kind_of(receiver: &Receiver, packet: &[u8]) -> u8 {
 
 /// The kinds of our own rows, both address messages good.
 fn kind_of_our_row(receiver: &Receiver, row: u8, packet: &[u8]) -> u8 {
-    if row >= 24 {
+    if row as usize >= ROWS {
         return 0;
     }
     if row >= 1 {
@@ -232,7 +235,7 @@ fn close(receiver: &mut Receiver, record: &mut [u8]) -> u8 {
     closing
 }
 
-/// "Opening with C4 set makes all 960 cells space and never; without C4, fresh becomes older."
+/// "Opening with C4 set makes all [...] cells space and never; without C4, fresh becomes older."
 fn clear_or_age(receiver: &mut Receiver, header: &Header) {
     for cell in 0..CELLS {
         if c4(header) {

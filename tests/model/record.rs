@@ -1,13 +1,37 @@
 //! The page record, written and read, and the refusals 12 and 20 to 24.
 
 use crate::packet::{zero_header, Header};
+use crate::receiver::{NEVER, SPACE};
 
-pub const ROWS: usize = 24;
+/// "The row limit rises from 24 to 25, so the receiver holds 1,000 characters."
+pub const ROWS: usize = 25;
 pub const COLUMNS: usize = 40;
 pub const CELLS: usize = ROWS * COLUMNS;
-pub const RECORD_LENGTH: usize = 1085;
 
-/// What a page record holds.
+/// A form of the record: its row code, its rows, and its length in bytes.
+#[derive(Clone, Copy, PartialEq, Debug)]
+pub struct Form {
+    pub row_code: u16,
+    pub rows: usize,
+    pub length: usize,
+}
+
+impl Form {
+    /// How many cells it has.
+    pub const fn cells(&self) -> usize {
+        self.rows * COLUMNS
+    }
+}
+
+/// "The record's four zero bits become a row code: 0 is the old form of 1,085 bytes, 1 the new of 1,130."
+pub const OLD: Form = Form { row_code: 0, rows: 24, length: 1085 };
+pub const NEW: Form = Form { row_code: 1, rows: ROWS, length: 1130 };
+pub const FORMS: [Form; 2] = [OLD, NEW];
+
+/// "The writer makes the new form and needs 1,130 bytes."
+pub const RECORD_LENGTH: usize = NEW.length;
+
+/// What a page record holds, whatever its form was.
 #[derive(Clone, PartialEq, Debug)]
 pub struct Page {
     pub magazine: u8,
@@ -94,8 +118,8 @@ fn push_bits(bits: &mut Vec<u8>, number: u16, count: u32) {
 }
 
 /// The bits before the cells: magazine 3 (0 for 8), tens 4, units 4, hours 2 and 4,
-/// minutes 3 and 4, C4 to C14 11, clean 1, zero 4.
-fn leading_bits(page: &Page) -> Vec<u8> {
+/// minutes 3 and 4, C4 to C14 11, clean 1, row code 4.
+fn leading_bits(page: &Page, row_code: u16) -> Vec<u8> {
     let mut bits = Vec::new();
     push_bits(&mut bits, (page.magazine % 8) as u16, 3);
     push_bits(&mut bits, page.header.tens as u16, 4);
@@ -106,14 +130,14 @@ fn leading_bits(page: &Page) -> Vec<u8> {
     push_bits(&mut bits, page.header.minutes_units as u16, 4);
     push_bits(&mut bits, page.header.control, 11);
     push_bits(&mut bits, page.clean as u16, 1);
-    push_bits(&mut bits, 0, 4);
+    push_bits(&mut bits, row_code, 4);
     bits
 }
 
-/// All bits of the record: "then 960 cells row by row, mark 2 and character 7".
-fn record_bits(page: &Page) -> Vec<u8> {
-    let mut bits = leading_bits(page);
-    for cell in 0..CELLS {
+/// All bits of the record: then the form's cells "row by row, mark 2 and character 7".
+fn record_bits(page: &Page, form: &Form) -> Vec<u8> {
+    let mut bits = leading_bits(page, form.row_code);
+    for cell in 0..form.cells() {
         push_bits(&mut bits, page.marks[cell] as u16, 2);
         push_bits(&mut bits, page.characters[cell] as u16, 7);
     }
@@ -125,22 +149,26 @@ fn packed(bits: &[u8]) -> Vec<u8> {
     bits.chunks(8).map(|eight| eight.iter().fold(0, |byte, bit| byte * 2 + bit)).collect()
 }
 
-/// The record writer: "Bytes of a lent buffer past 1,085 stay."
+/// A page's bytes in a form; in the old one row 24 is left out.
+pub fn encoded(page: &Page, form: &Form) -> Vec<u8> {
+    let bytes = packed(&record_bits(page, form));
+    assert_eq!(bytes.len(), form.length);
+    bytes
+}
+
+/// The record writer: "the writer makes the new form". Bytes of a lent buffer past it stay.
 pub fn write_page(page: &Page, record: &mut [u8]) -> u8 {
     let number = writer_refusal(page, record.len());
     if number == 0 {
-        let bytes = packed(&record_bits(page));
-        assert_eq!(bytes.len(), RECORD_LENGTH);
-        record[..RECORD_LENGTH].copy_from_slice(&bytes);
+        record[..RECORD_LENGTH].copy_from_slice(&encoded(page, &NEW));
     }
     number
 }
 
-/// The record of a page that is lawful.
-pub fn record_of(page: &Page) -> Vec<u8> {
-    let mut record = vec![0; RECORD_LENGTH];
-    assert_eq!(write_page(page, &mut record), 0);
-    record
+/// The record of a page that is lawful, in a form.
+pub fn record_of(page: &Page, form: &Form) -> Vec<u8> {
+    assert_eq!(writer_refusal(page, RECORD_LENGTH), 0);
+    encoded(page, form)
 }
 
 /// The bits of a record, one by one, with the place of the next to be taken.
@@ -183,29 +211,35 @@ fn take_header(taker: &mut Taker) -> Header {
     header
 }
 
-/// Everything a record of the right length says, unchecked, and its four zero bits.
-fn taken(record: &[u8]) -> (Page, u16) {
+/// Everything a record of a form's length says, unchecked, and its row code. What the form has no cells
+/// for is spaces marked never: "an old one giving row 24 as spaces marked never".
+fn taken(record: &[u8], form: &Form) -> (Page, u16) {
     let mut taker = Taker::of(record);
-    let mut page = zero_page();
+    let mut page = Page { characters: vec![SPACE; CELLS], marks: vec![NEVER; CELLS], ..zero_page() };
     let magazine = taker.take(3) as u8;
     page.magazine = if magazine == 0 { 8 } else { magazine };
     page.header = take_header(&mut taker);
     page.clean = taker.take(1) == 1;
-    let zero = taker.take(4);
-    for cell in 0..CELLS {
+    let row_code = taker.take(4);
+    for cell in 0..form.cells() {
         page.marks[cell] = taker.take(2) as u8;
         page.characters[cell] = taker.take(7) as u8;
     }
-    (page, zero)
+    (page, row_code)
 }
 
-/// The record reader: "reader 20 to 23".
+/// "21 for a row code above 1 or one that doesn't fit the length."
+fn cause_21(row_code: u16, form: &Form) -> bool {
+    row_code > NEW.row_code || row_code != form.row_code
+}
+
+/// The record reader: "reader 20 to 23". "Our reader takes both" forms, and 20 is a length that neither has.
 pub fn read_page(record: &[u8]) -> (u8, Page) {
-    if record.len() != RECORD_LENGTH {
+    let Some(form) = FORMS.iter().find(|form| record.len() == form.length) else {
         return (20, zero_page());
-    }
-    let (page, zero) = taken(record);
-    if zero != 0 {
+    };
+    let (page, row_code) = taken(record, form);
+    if cause_21(row_code, form) {
         (21, zero_page())
     } else if cause_22(&page.header) {
         (22, zero_page())

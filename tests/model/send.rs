@@ -4,6 +4,11 @@ use crate::bits::{character_byte, turned, FRAMING, SENT};
 use crate::packet::{control_weight, zero_header, Header};
 use crate::random::Random;
 use crate::receiver::{Selection, TimeCode};
+use crate::record::ROWS;
+
+/// The last row that is shown, and the last that can be sent.
+pub const LAST_SHOWN: u8 = ROWS as u8 - 1;
+pub const LAST_SENT: u8 = 31;
 
 /// The two address messages of a magazine and row.
 pub fn address_messages(magazine: u8, row: u8) -> [u8; 2] {
@@ -143,11 +148,11 @@ fn hamming_places(row: u8) -> std::ops::Range<usize> {
     }
 }
 
-/// Where the characters of a line as sent are; rows 24 to 31 have none.
+/// Where the characters of a line as sent are; rows 25 to 31 have none.
 fn character_places(row: u8) -> std::ops::Range<usize> {
     match row {
         0 => 13..45,
-        1..=23 => 5..45,
+        1..=LAST_SHOWN => 5..45,
         _ => 45..45,
     }
 }
@@ -301,15 +306,19 @@ impl Broadcaster {
         }
     }
 
-    /// The rows of a page: in order or in any order, some of them twice, some of 24 to 31.
+    /// The rows of a page: in order or in any order, some of them twice, now and then row 24 behind them and
+    /// one of 25 to 31.
     fn next_rows(&self, random: &mut Random) -> Vec<u8> {
         let count = random.below(self.most_rows + 1);
-        let mut rows: Vec<u8> = (0..count).map(|_| random.within(1, 23)).collect();
+        let mut rows: Vec<u8> = (0..count).map(|_| random.within(1, LAST_SHOWN)).collect();
         if random.once_in(2) {
             rows.sort();
         }
         if random.once_in(3) {
-            rows.push(random.within(24, 31));
+            rows.push(LAST_SHOWN);
+        }
+        if random.once_in(3) {
+            rows.push(random.within(LAST_SHOWN + 1, LAST_SENT));
         }
         rows
     }

@@ -2,12 +2,12 @@
 //! fresh receiver closes after them.
 
 use crate::bits::{all_turned, character, exact, FRAMING};
-use crate::case_sending::{page_to_send, some_choice};
+use crate::case_sending::{page_in_a_form, some_choice};
 use crate::laws::{print_over, Law};
 use crate::packet::{address, control_weight, packet_of_line, Address, Header};
 use crate::random::Random;
 use crate::receiver::*;
-use crate::record::{read_page, record_of, Page, CELLS, COLUMNS, RECORD_LENGTH};
+use crate::record::{read_page, record_of, Page, CELLS, COLUMNS, RECORD_LENGTH, ROWS};
 use crate::send::{any_header, flip, framing_damage, header_line, text};
 use crate::transmission::{room_needed, rows_wanted, send_page, Wanted, LINE_LENGTH};
 
@@ -92,11 +92,11 @@ fn fed(lines: &[&[u8]], further: &[u8], selection: &Selection, random: &mut Rand
     Feeding { answers, further, record_untouched, record }
 }
 
-/// A random page sent into a random room that is long enough, and fed with every selection and every
-/// manner of the further line.
+/// A random page, from a record of either form, sent into a random room that is long enough, and fed with every
+/// selection and every manner of the further line.
 fn some_sent(random: &mut Random) -> Sent {
-    let (given, wanted) = (page_to_send(random), some_choice(random));
-    let record = record_of(&given);
+    let ((given, form), wanted) = (page_in_a_form(random), some_choice(random));
+    let record = record_of(&given, &form);
     let past = random.pick(&[0, 0, 1, 44, 45, 90]);
     let room_before = random.bytes(room_needed(&wanted) + past);
     let mut room = room_before.clone();
@@ -139,7 +139,7 @@ fn rows(sent: &Sent) -> Vec<bool> {
     let read: Option<Vec<usize>> = lines.iter().map(row).collect();
     let holds = |read: Vec<usize>| {
         let rising = read.windows(2).all(|two| two[0] < two[1]);
-        let as_wanted = (1..=23).all(|row| read.contains(&row) == sent.wanted[row - 1]);
+        let as_wanted = (1..ROWS).all(|row| read.contains(&row) == sent.wanted[row - 1]);
         read.first() == Some(&0) && rising && as_wanted
     };
     vec![sent.answer.0 == 0 && run_in && read.is_some_and(holds)]

@@ -6,7 +6,8 @@ use crate::record::{Page, CELLS};
 use crate::recording::Mended;
 use crate::transmission::Wanted;
 
-pub const RECEIVER_LENGTH: usize = 1938;
+/// SELECTION, two bytes and HEADER, and each cell's character and mark.
+pub const RECEIVER_LENGTH: usize = 18 + 2 * CELLS;
 
 /// The longest input that two bytes can name.
 pub const LONGEST: usize = 65_535;
@@ -101,7 +102,7 @@ pub fn header_of(x: &[u8]) -> Header {
     h
 }
 
-/// RECEIVER, 1,938 bytes.
+/// RECEIVER, 2,018 bytes.
 pub fn receiver_bytes(receiver: &Receiver) -> Vec<u8> {
     let mut out = selection_bytes(&receiver.selection);
     out.push(receiver.open as u8);

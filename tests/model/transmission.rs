@@ -2,15 +2,15 @@
 //! transmission.
 
 use crate::packet::control_weight;
-use crate::record::{read_page, Page, COLUMNS};
+use crate::record::{read_page, Page, COLUMNS, ROWS};
 use crate::send::{header_line, row_line};
 
 pub const LINE_LENGTH: usize = 45;
 
-/// Rows 1 to 23 are sent where they are wanted.
-pub const CHOOSABLE: usize = 23;
+/// "Demands 2 and 3 and request 2 read 24 rows beside the header": rows 1 to 24 are sent where they are wanted.
+pub const CHOOSABLE: usize = ROWS - 1;
 
-/// "A yes or no for each row 1 to 23", row 1 first.
+/// A yes or no for each row 1 to 24, row 1 first.
 pub type Wanted = [bool; CHOOSABLE];
 
 /// The rows that are wanted, rising.

@@ -1,12 +1,14 @@
-"""A plain model of the section "Display cells" and of double height over the page, from document 01 and request 1 of document 02 alone.
+"""A plain model of the section "Display cells" and of double height over the page, from document 01 and requests 1 and 5 of document 02 alone.
 
 Nothing here is taken from the code that is tried by it.
 """
 from collections import namedtuple
 
-ROWS, COLUMNS = 24, 40
-LAST = ROWS - 1
-EDGES = (0, LAST)
+ROWS, COLUMNS = 25, 40
+CELLS = ROWS * COLUMNS
+# The last row that can be double, and the rows on which a 0D does nothing: the header, and the two below that row.
+LAST_DOUBLE = 22
+EDGES = (0, LAST_DOUBLE + 1, LAST_DOUBLE + 2)
 DOUBLE = 0x0D
 NORMAL, UPPER, LOWER = 0, 1, 2
 SPACE = ("L", 0x20)
@@ -103,7 +105,7 @@ def cells(codes):
 
 
 def row_of_its_own(number, codes):
-    """A row that shows its own codes. On rows 0 and 23 a 0D is a control code like 00."""
+    """A row that shows its own codes. On rows 0, 23 and 24 a 0D is a control code like 00."""
     if number in EDGES:
         codes = [0x00 if code == DOUBLE else code for code in codes]
     return cells(codes)
@@ -117,7 +119,7 @@ def cell_below(above):
 
 
 def rows_of(page):
-    return [page[start : start + COLUMNS] for start in range(0, ROWS * COLUMNS, COLUMNS)]
+    return [page[start : start + COLUMNS] for start in range(0, CELLS, COLUMNS)]
 
 
 def shown_rows(page):
@@ -134,6 +136,6 @@ def shown_rows(page):
 
 
 def answer(page):
-    if len(page) == ROWS * COLUMNS and all(0x00 <= code <= 0x7F for code in page):
+    if len(page) == CELLS and all(0x00 <= code <= 0x7F for code in page):
         return 0, sum(shown_rows(page), [])
-    return 25, [ZERO] * (ROWS * COLUMNS)
+    return 25, [ZERO] * CELLS

@@ -1,8 +1,8 @@
-"""What the model is held to by itself, from document 01 and request 1 of document 02 alone: small examples, and laws of every page.
+"""What the model is held to by itself, from document 01 and requests 1 and 5 of document 02 alone: small examples, and laws of every page.
 
 Nothing here is taken from the code that is tried by the model.
 """
-from cells import BLANK, COLUMNS, DOUBLE, EDGES, LAST, LOWER, NORMAL, ROWS, SPACE, UPPER, Cell, answer, row_of_its_own, rows_of, shown_rows
+from cells import BLANK, CELLS, COLUMNS, DOUBLE, EDGES, LAST_DOUBLE, LOWER, NORMAL, ROWS, SPACE, UPPER, Cell, answer, row_of_its_own, rows_of, shown_rows
 from pages import at, headline, laid, text
 from worked_rows import hexes, worked_rows
 
@@ -33,12 +33,28 @@ def headline_cases():
     for number in range(ROWS):
         held = row_of_a_page(number, "11 7F 1E 0D 00 35")
         assert [cell.symbol for cell in held[3:6]] == [("C", 63), ("C", 63) if number in EDGES else BLANK, ("C", 21)]
-    heights = [max(cell.height for cell in row) for row in shown_rows([DOUBLE] * (ROWS * COLUMNS))]
-    assert heights == [NORMAL] + [UPPER, LOWER] * 11 + [NORMAL]
+    heights = [max(cell.height for cell in row) for row in shown_rows([DOUBLE] * CELLS)]
+    assert heights == [NORMAL] + [UPPER, LOWER] * 11 + [NORMAL] * 2
+
+
+def last_row_cases():
+    """The sentence of request 5 on small examples: rows 23 and 24 can't be double, and row 23 can be the lower half of row 22."""
+    last = shown_rows(laid(at((22, 23, 24), "41 0D 42")))[22:]
+    assert [[(cell.symbol[1], cell.height) for cell in row[:3]] for row in last] == [
+        [(0x41, NORMAL), (0x20, NORMAL), (0x42, UPPER)],
+        [(0x20, NORMAL), (0x20, NORMAL), (0x42, LOWER)],
+        [(0x41, NORMAL), (0x20, NORMAL), (0x42, NORMAL)],
+    ]
+    for number in (23, 24):
+        plain, doubled = shown_rows(laid({})), shown_rows(laid(at((number,), "0D")))
+        assert plain[:number] == doubled[:number] and plain[number + 1:] == doubled[number + 1:] and plain[number][1:] == doubled[number][1:]
+        assert doubled[number][0] == Cell(SPACE, 7, 0, False, False, False, NORMAL)
 
 
 def below_a_doubled_row(rows, number):
-    """Whether the rows with a 0D that run up to this one, row 0 left out, are odd in number."""
+    """Whether the row above can be double, and the rows with a 0D that run up to this one, row 0 left out, are odd in number."""
+    if number - 1 in EDGES:
+        return False
     running = 0
     while number - running > 1 and DOUBLE in rows[number - running - 1]:
         running += 1
@@ -56,9 +72,9 @@ def lower_row_law(above, below):
 
 
 def edge_law(displayed):
-    """Rows 0 and 23 hold no double cell that they made themselves."""
-    assert all(cell.height == NORMAL for cell in displayed[0])
-    assert all(cell.height == NORMAL or cell.height == LOWER and above.height == UPPER for above, cell in zip(displayed[LAST - 1], displayed[LAST]))
+    """Rows 0 and 24 hold no double cell, and row 23 none that it made itself."""
+    assert all(cell.height == NORMAL for number in (0, 24) for cell in displayed[number])
+    assert all(cell.height == NORMAL or cell.height == LOWER and above.height == UPPER for above, cell in zip(displayed[LAST_DOUBLE], displayed[LAST_DOUBLE + 1]))
 
 
 def upper_law(displayed):
@@ -70,7 +86,7 @@ def upper_law(displayed):
 
 def page_laws(page):
     """What holds of every page. A row that is not below a doubled one is what its codes alone give; the codes of one that is don't count."""
-    assert len(page) == ROWS * COLUMNS
+    assert len(page) == CELLS
     rows, displayed = rows_of(page), shown_rows(page)
     hidden = [number for number in range(ROWS) if below_a_doubled_row(rows, number)]
     for number in range(ROWS):
@@ -85,7 +101,7 @@ def page_laws(page):
 
 
 def layout_law(pages):
-    """Every worked row is shown on row 0 or 23 of some page and on a row between of some page. There the row below is taken where it has a 0D."""
+    """Every worked row is shown on row 0, 23 or 24 of some page and on a row between of some page. There the row below is taken where it has a 0D."""
     at_edges, between = set(), set()
     for rows in map(rows_of, pages):
         for number, codes in enumerate(rows):
@@ -96,14 +112,15 @@ def layout_law(pages):
 
 
 def refusal_law(pages):
-    """Of the pages beside the refused ones nine are taken: one of 960 letters, seven with a 7F, and one with a 7F below a doubled row."""
-    assert [answer(page)[0] for page in pages].count(0) == 9
+    """Of the pages beside the refused ones eleven are taken: one of 1,000 letters, nine with a 7F, and one with a 7F below a doubled row."""
+    assert [answer(page)[0] for page in pages].count(0) == 11
 
 
 def all_hold(worked, by_hand, refused, by_chance):
     """Stops at the first example or law that does not hold."""
     marked_cases()
     headline_cases()
+    last_row_cases()
     layout_law(worked)
     refusal_law(refused)
     for page in worked + by_hand + by_chance:

@@ -1,5 +1,5 @@
 #!/usr/bin/env python3
-"""Pages of codes and what they show, from document 01 and request 1 of document 02 alone: cases and answers for `tests/model/compare -`.
+"""Pages of codes and what they show, from document 01 and requests 1 and 5 of document 02 alone: cases and answers for `tests/model/compare -`.
 
 The model of the display is in cells.py, the pages on which it is tried in pages.py and worked_rows.py, and what it is held to itself in laws.py.
 Nothing in them is taken from the code that is tried by them.

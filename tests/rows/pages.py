@@ -1,10 +1,10 @@
-"""The pages of codes on which a display is tried, from document 01 and request 1 of document 02 alone: with the worked rows, by hand, refused, by chance.
+"""The pages of codes on which a display is tried, from document 01 and requests 1 and 5 of document 02 alone: with the worked rows, by hand, refused, by chance.
 
 Nothing here is taken from the code that is tried on them.
 """
 import random
 
-from cells import COLUMNS, DOUBLE, LAST, ROWS
+from cells import CELLS, COLUMNS, DOUBLE, LAST_DOUBLE, ROWS
 from worked_rows import hexes, worked_rows
 
 
@@ -33,12 +33,12 @@ def headline(number, column):
 
 
 def pages_of_worked_rows():
-    """The worked rows, two to a page on rows 0 and 23, and ten or eleven between, each above plain text: on odd rows and on even ones by turns."""
+    """The worked rows, three to a page on rows 0, 23 and 24, and ten or eleven between, each above plain text: on odd rows and on even ones by turns."""
     rows = list(worked_rows())
     place = 0
     for n in range(0, len(rows), 2):
-        page = {0: rows[n], LAST: rows[(n + 1) % len(rows)]}
-        for number in range(1 + n // 2 % 2, LAST - 1, 2):
+        page = {0: rows[n], 23: rows[(n + 1) % len(rows)], 24: rows[(n + 2) % len(rows)]}
+        for number in range(1 + n // 2 % 2, LAST_DOUBLE, 2):
             page[number] = rows[place % len(rows)]
             place += 1
         yield laid(page)
@@ -46,35 +46,38 @@ def pages_of_worked_rows():
 
 def pages_with_one_0d():
     """One 0D to a page: on the first and the last row where it counts, and on the rows beside them."""
-    for number in (0, 1, 2, 21, 22, 23):
+    for number in (0, 1, 2, 21, 22, 23, 24):
         yield laid({number: headline(number, 1)})
 
 
 def pages_with_0d_in_end_columns():
     """Three 0D to a page, on three rows: in column 0, then in column 39."""
     for column in (0, 39):
-        for numbers in ((0, 12, 22), (1, 21, 23)):
+        for numbers in ((0, 12, 22), (1, 21, 23), (2, 20, 24)):
             yield laid({number: headline(number, column) for number in numbers})
 
 
 def pages_of_rows_running():
-    """A 0D on two to five rows running, from the top, into the end and between; on every row; on every row from 2 on."""
+    """A 0D on two to five rows running, from the top, into each of the last three rows and between; on every row; on every row from 2 on."""
     for runs in (
         ((1, 2), (5, 3), (10, 4), (21, 2)),
         ((0, 2), (4, 3), (9, 4), (22, 2)),
         ((0, 3), (7, 2), (20, 4)),
         ((0, 4), (7, 5), (21, 3)),
-        ((0, 24),),
-        ((2, 22),),
+        ((0, 2), (7, 3), (23, 2)),
+        ((1, 3), (7, 4), (22, 3)),
+        ((1, 2), (7, 2), (21, 4)),
+        ((0, ROWS),),
+        ((2, ROWS - 2),),
     ):
         yield laid({number: headline(number, number) for first, count in runs for number in range(first, first + count)})
 
 
 def over_pages(rows):
-    """Each of these rows on a page of its own, on rows 0, 1, 12, 21 and 23; then all of them on one page, the last on row 22."""
+    """Each of these rows on a page of its own, on rows 0, 1, 12, 21, 23 and 24; then all of them on one page, the last on row 22 and again on 24."""
     for words in rows:
-        yield laid(at((0, 1, 12, 21, 23), words))
-    yield laid({22 - 3 * n: hexes(words) for n, words in enumerate(reversed(rows))})
+        yield laid(at((0, 1, 12, 21, 23, 24), words))
+    yield laid({22 - 3 * n: hexes(words) for n, words in enumerate(reversed(rows))} | at((24,), rows[-1]))
 
 
 def pages_with_0d_undone():
@@ -109,7 +112,7 @@ def pages_with_attributes():
 
 
 def pages_of_held_mosaics():
-    """Held mosaics before and after a 0D: held goes blank where the 0D counts, and stays on rows 0 and 23."""
+    """Held mosaics before and after a 0D: held goes blank where the 0D counts, and stays on rows 0, 23 and 24."""
     yield from over_pages((
         "11 7F 1E 00 0D 00 35 00 0D 00 0C 00 6A 00 0C 00",
         "12 1A 7F 1E 0D 00 19 00 35 00",
@@ -125,7 +128,7 @@ def pages_with_rows_below():
     everything = "11 1D 17 08 1A 0B 0B 18 1E 7F 0D 35"
     for below in ("0D 41", "41 0C 42", "11 7F 1E 12 00 35", "01 1D 08 18 0B 0B 41", "0D 0C 0D 11 1E 7F 0D", bytes(range(0x20)).hex()):
         rows = at((4,), "41 0D 42") | at((8, 12, 22), everything) | at((5, 9, 13, 15, 23), below)
-        yield laid(rows | at((10,), "35 00 41") | at((14,), "35 0D 36"))
+        yield laid(rows | at((10,), "35 00 41") | at((14, 24), "35 0D 36"))
 
 
 def pages_that_start_afresh():
@@ -153,14 +156,14 @@ def replaced(page, place, code):
 
 def refused_pages():
     """The pages that are refused, each beside the nearest that is not."""
-    for length in (0, 1, 40, 959, 960, 961, 1000):
+    for length in (0, 1, 40, CELLS - COLUMNS - 1, CELLS - COLUMNS, CELLS - COLUMNS + 1, CELLS - 1, CELLS, CELLS + 1, CELLS + COLUMNS):
         yield [0x41] * length
-    yield [0x20] * 960 + [0x80]
-    yield [0x80] * 959
-    yield [0x80] * 960
+    yield [0x20] * CELLS + [0x80]
+    yield [0x80] * (CELLS - 1)
+    yield [0x80] * CELLS
     for code in (0x7F, 0x80, 0xC1, 0xFF):
-        for place in (0, 1, 20, 39, 40, 500, 959):
-            yield replaced([0x42] * 960, place, code)
+        for place in (0, 1, 20, 39, 40, 500, CELLS - COLUMNS - 1, CELLS - COLUMNS, CELLS - 1):
+            yield replaced([0x42] * CELLS, place, code)
     # below a doubled row too, where the code would not be shown; and a 0D with the eighth bit set
     for code in (0x7F, 0x80):
         yield replaced(laid({7: headline(7, 3)}), 8 * COLUMNS + 5, code)

@@ -1,4 +1,4 @@
-"""Rows of codes on which a display is tried, made by hand from document 01 and request 1 of document 02 alone.
+"""Rows of codes on which a display is tried, made by hand from document 01 and requests 1 and 5 of document 02 alone.
 
 Nothing here is taken from the code that is tried on them.
 """

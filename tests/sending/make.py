@@ -1,6 +1,6 @@
 #!/usr/bin/env python3
-"""What the program `send` must write for a record and some rows, by a small writer of its own: written from document 01 and request 2 of document 02, and for the closing line
-from README, with nothing taken from the project's code.
+"""What the program `send` must write for a record and some rows, by a small writer of its own: written from document 01 and requests 2 and 5 of document 02, and for the closing
+line from README, with nothing taken from the project's code. The record may be in the old form or in the new.
 
     make.py [ROWS] < RECORD > LINES     the lines of one transmission and the line that ends it; ROWS as "1-5,20", all where they are left out
     make.py page < RECORD               the page's number, to be asked of `receive`
@@ -9,7 +9,8 @@ import sys
 
 # Document 01, "Hamming bytes": messages 0 to 15 are sent as.
 SENT = bytes.fromhex("1502495e6473382fd0c78c9ba1b6fdea")
-ROWS, COLUMNS = 24, 40
+ROWS, COLUMNS = 25, 40
+SPACES = COLUMNS * [0x20]
 
 
 def bits_of(record):
@@ -27,9 +28,10 @@ def parts_of(bits):
 
 
 def rows_of(bits):
-    """The characters of each row: a cell is a mark of two bits, which is not asked here, and seven bits of character."""
-    cells = [int(bits[40 + 9 * n + 2:40 + 9 * n + 9], 2) for n in range(ROWS * COLUMNS)]
-    return [cells[row * COLUMNS:(row + 1) * COLUMNS] for row in range(ROWS)]
+    """The characters of each row: a cell is a mark of two bits, which is not asked here, and seven bits of character. The row that an old record has not is spaces."""
+    cells = [int(bits[at + 2:at + 9], 2) for at in range(40, len(bits), 9)]
+    rows = [cells[at:at + COLUMNS] for at in range(0, len(cells), COLUMNS)]
+    return rows + (ROWS - len(rows)) * [SPACES]
 
 
 def character(code):
@@ -67,7 +69,7 @@ def chosen(argument):
     return rows
 
 
-def main(argument="1-23"):
+def main(argument=f"1-{ROWS - 1}"):
     bits = bits_of(sys.stdin.buffer.read())
     magazine, tens, units = parts_of(bits)[:3]
     if argument == "page":

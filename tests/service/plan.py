@@ -22,7 +22,7 @@ The charities, their references and the places are invented.
 TEXTS = {
     # Page 100. Row 1 is a double-height headline, and takes row 2. Row 10 is
     # what a reader copies on to a payment slip: with "#" for the pound sign it
-    # would be a wrong amount.
+    # would be a wrong amount. Row 24 has the prompts, and is the last.
     "appeal": {
         1: "{yellow}{double}LANTERN MOSS OTTER TRUST",
         3: "{white}An invented charity in an example.",
@@ -135,21 +135,20 @@ MAGAZINE_1 = """
     page 101 at 12:02, erase, set 7; one wrong bit in page tens   # line 37: ends 100 at 12:01, in doubt
     rows 1 3 of fund
     row 9 of fund; one wrong bit in address 1        # line 46: neither 100 nor 101 is open
-    row 10 of fund
 
     # Row 20 is not sent again and nothing is erased, so the text of 12:01
     # stays; whoever asked for 100/1204 never had it. The single wrong bits
     # and the unread row 27 do no harm: this sending is clean.
-    page 100 at 12:04; one wrong bit in hours units  # line 52
+    page 100 at 12:04; one wrong bit in hours units  # line 49
     row 1 of appeal
-    row 3 of appeal; one wrong bit in framing        # line 58: framing is not counted
+    row 3 of appeal; one wrong bit in framing        # line 55: framing is not counted
     rows 5 6 of appeal
-    row 7 of appeal; one wrong bit in address 2      # line 67
-    row 9 of appeal; one wrong bit in address 1      # line 70
+    row 7 of appeal; one wrong bit in address 2      # line 64
+    row 9 of appeal; one wrong bit in address 1      # line 67
     row 10 of appeal
     row 12 of total
-    row 22 of appeal
-    # Its row is mended, and is 24 or more; whose it is cannot be read.
+    rows 22 24 of appeal
+    # Its row is mended, and is 26 or 27; whose it is cannot be read.
     links; two wrong bits in address 1 and one wrong bit in address 2   # line 82
 
     # Which page begins here cannot be read, but one does: 100 at 12:04 ends,
@@ -184,7 +183,7 @@ MAGAZINE_2 = """
     rows 1 3 5 of weather
     row 7 of weather; one wrong bit in address 1 and two wrong bits in address 2   # line 14: not row 0, so doubt only
     rows 9 11 of weather
-    row 24 of weather; one wrong bit in address 1    # line 23: not for the page
+    row 24 of weather; one wrong bit in address 1    # line 23: stored, so it counts as page 200's own
     # The header that ends a sending of its own page opens the next, and is
     # that one's own line.
     page 200 at 12:02; one wrong bit in address 1 and one wrong bit in hours units   # line 26: ends 200 at 12:01
@@ -206,7 +205,9 @@ MAGAZINE_2 = """
     rows 1 3 of weather
     # Magazine unread, and no row 0: doubt for 200 and for 301, both open.
     row 5 of weather; two wrong bits in address 1 and one wrong bit in address 2   # line 92
-    row 7 of weather
+    # Magazine unread, and row 24 or 25: doubt again, for 200 and for the next
+    # sending of 301.
+    row 24 of weather; two wrong bits in address 1   # line 95
     row 9 of weather; one wrong bit in address 1     # line 98
     page 2FF at 12:07; one wrong bit in page tens    # line 101: ends 200 at 12:06
     page 200 at 12:08; one wrong bit in address 1 and one wrong bit in address 2 and one wrong bit in hours tens   # line 104
@@ -242,14 +243,17 @@ MAGAZINE_3 = """
     # Its row 1 is that of 12:01, older.
     page 302 at 12:04, set 4                         # line 72: ends 301 at 12:03, clean
     rows 5 6 10 of forest
-    # This ends 302 at 12:04, clean: line 82, while it was open, is of a row 24
-    # or more. Of this sending's lines two bytes are mended; that of line 92 is
-    # no line of its own.
+    # This ends 302 at 12:04, clean: line 82, while it was open, is of row 26
+    # or 27. Of this sending's lines one byte is mended; that of line 92 is no
+    # line of its own.
     page 301 at 12:06, erase; one wrong bit in C11 to C14    # line 84: in doubt from line 92
-    rows 1 3 5 6 of puzzle
+    rows 1 3 of puzzle
+    # All of this sending's own lines are good; line 95 may have been its row 24.
+    page 301 at 12:07, erase                         # line 93: ends 301 at 12:06; in doubt from line 95
+    row 6 of puzzle
     row 7 of puzzle; one wrong bit in address 2      # line 99
     row 9 of puzzle
-    page 303 at 12:07, erase, set 6                  # line 105: ends 301 at 12:06
+    page 303 at 12:07, erase, set 6                  # line 105: ends 301 at 12:07
     rows 1 10 of dragonflies
     # Line 127 is missing while this sending is open. It was not even of this
     # magazine, but that is just what a refused framing code does not say.
@@ -264,13 +268,14 @@ MAGAZINE_3 = """
     links; one wrong bit in address 1                # line 150: not for the page
 """
 
-# What an earlier sending in doubt left: its row 10, with a digit missing, is
-# not sent again, and nothing is erased. The byte mended in the second header
-# is of the sending that it opens, and not of the one that it ends.
+# What an earlier sending in doubt left: its row 10, with a digit missing, and
+# its row 24 are not sent again, and nothing is erased. The byte mended in the
+# second header is of the sending that it opens, and not of the one that it ends.
 EARLIER = """
     page 100 at 12:01, erase
-    rows 1 9 of appeal
+    row 1 of appeal
     row 10 of appeal; one wrong bit in column 9
+    row 24 of appeal
     page 100 at 12:02; one wrong bit in hours units  # line 5: ends 100 at 12:01, in doubt
     rows 1 9 of appeal
     page 1FF at 12:03                                # line 8: ends 100 at 12:02, clean

@@ -2,7 +2,7 @@
 use mathlib.Core.Path.{_≡_, refl}
 use mathlib.Core.Bool.{Bool, true, false}
 use mathlib.Core.List.{List, [], _∷_, _++_}
-use Prim.Native.Nat.{ℕ}
+use Prim.Native.Nat.{ℕ, _-_}
 use lib.ListN.{replicate}
 use Rattle.grid.specs.Grid.{lastRow}
 use Rattle.choosing.specs.Chosen.{namesRows, wantedRows}
@@ -23,37 +23,37 @@ no n = replicate n false
 -- ---- arguments that name rows
 
 -- "1-5,20"
-pub range-and-row : told (0x31 ∷ 0x2D ∷ 0x35 ∷ 0x2C ∷ 0x32 ∷ 0x30 ∷ []) ≡ (true, yes 5 ++ (no 14 ++ (yes 1 ++ no 3)))
+pub range-and-row : told (0x31 ∷ 0x2D ∷ 0x35 ∷ 0x2C ∷ 0x32 ∷ 0x30 ∷ []) ≡ (true, yes 5 ++ (no 14 ++ (yes 1 ++ no (lastRow - 20))))
 unfolding wantedRows
 range-and-row = refl
 
 -- "7"
-pub one-row : told (0x37 ∷ []) ≡ (true, no 6 ++ (yes 1 ++ no 16))
+pub one-row : told (0x37 ∷ []) ≡ (true, no 6 ++ (yes 1 ++ no (lastRow - 7)))
 unfolding wantedRows
 one-row = refl
 
--- "23"
-pub last-row : told (0x32 ∷ 0x33 ∷ []) ≡ (true, no 22 ++ yes 1)
+-- "24"
+pub last-row : told (0x32 ∷ 0x34 ∷ []) ≡ (true, no (lastRow - 1) ++ yes 1)
 unfolding wantedRows
 last-row = refl
 
--- "1-23"
-pub all-rows : told (0x31 ∷ 0x2D ∷ 0x32 ∷ 0x33 ∷ []) ≡ (true, yes 23)
+-- "1-24"
+pub all-rows : told (0x31 ∷ 0x2D ∷ 0x32 ∷ 0x34 ∷ []) ≡ (true, yes lastRow)
 unfolding wantedRows
 all-rows = refl
 
 -- "1-5,3"
-pub overlapping : told (0x31 ∷ 0x2D ∷ 0x35 ∷ 0x2C ∷ 0x33 ∷ []) ≡ (true, yes 5 ++ no 18)
+pub overlapping : told (0x31 ∷ 0x2D ∷ 0x35 ∷ 0x2C ∷ 0x33 ∷ []) ≡ (true, yes 5 ++ no (lastRow - 5))
 unfolding wantedRows
 overlapping = refl
 
 -- "20,1-5"
-pub any-order : told (0x32 ∷ 0x30 ∷ 0x2C ∷ 0x31 ∷ 0x2D ∷ 0x35 ∷ []) ≡ (true, yes 5 ++ (no 14 ++ (yes 1 ++ no 3)))
+pub any-order : told (0x32 ∷ 0x30 ∷ 0x2C ∷ 0x31 ∷ 0x2D ∷ 0x35 ∷ []) ≡ (true, yes 5 ++ (no 14 ++ (yes 1 ++ no (lastRow - 20))))
 unfolding wantedRows
 any-order = refl
 
 -- "9-09"
-pub one-to-itself : told (0x39 ∷ 0x2D ∷ 0x30 ∷ 0x39 ∷ []) ≡ (true, no 8 ++ (yes 1 ++ no 14))
+pub one-to-itself : told (0x39 ∷ 0x2D ∷ 0x30 ∷ 0x39 ∷ []) ≡ (true, no 8 ++ (yes 1 ++ no (lastRow - 9)))
 unfolding wantedRows
 one-to-itself = refl
 
@@ -64,8 +64,8 @@ pub row-zero : told (0x30 ∷ []) ≡ noRows
 unfolding wantedRows
 row-zero = refl
 
--- "24"
-pub past-the-last : told (0x32 ∷ 0x34 ∷ []) ≡ noRows
+-- "25"
+pub past-the-last : told (0x32 ∷ 0x35 ∷ []) ≡ noRows
 unfolding wantedRows
 past-the-last = refl
 

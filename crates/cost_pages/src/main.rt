@@ -81,7 +81,7 @@ fn lines_of(sent: Sent) -> u8 {
     match sent {
         Sent::Lines(count) => (count % 256) as u8,
         Sent::WrongLength => 20,
-        Sent::NotZero => 21,
+        Sent::WrongRowCode => 21,
         Sent::BadDigit => 22,
         Sent::UnlawfulCells => 23,
         Sent::ShortRoom => 30,

@@ -82,7 +82,7 @@ module _ (d : ℕ) (mild : d ≤ throughout) (s r : List ℕ) (sent : T (sentByR
   pub whole-sent : (magazine row : ℕ) → addressOf (linePacket r) ≡ Whole magazine row → (sentMagazine s ≡ magazine) × (sentRow s ≡ row)
   whole-sent magazine row e = subst (Told s) e told
 
-  -- and a line of another's is none of our rows 0 to 23
+  -- and a line of another's is none of our rows that carry characters
   pub anothers-row : (ours : ℕ) → Anothers ours (addressOf (linePacket r)) → sentMagazine s ≡ ours → sentRow s ≤ lastRow → ⊥
   anothers-row ours (other-magazine magazine row e differs) our high = differs (sym (subst (Told s) e told .0) ∙ our)
   anothers-row ours (late-row magazine row e late) our high = omega (arith, subst (Told s) e told .1)

@@ -11,6 +11,7 @@ use Rattle.coding.specs.Characters.{character}
 use Rattle.coding.specs.Hamming.{corrected, message, testsOf}
 use Rattle.packet.specs.Addresses.{addressOf, addressPaper}
 use Rattle.packet.specs.Headers.{zeroHeader}
+use Rattle.page.specs.OldForm.{oldRecordOf}
 use Rattle.page.specs.Records.{recordOf}
 use Rattle.page.specs.declared.Page.{Page}
 use Rattle.receiver.specs.Cells.{blank}
@@ -88,6 +89,10 @@ heldCodes = 0x11 ∷ 0x7F ∷ 0x1E ∷ 0x12 ∷ 0x20 ∷ []
 abbrev pub boxCodes : List ℕ
 boxCodes = 0x0B ∷ 0x0B ∷ 0x41 ∷ 0x0A ∷ 0x0A ∷ []
 
+-- 10 08 04 02 01 00 80 40 20
+abbrev pub nineOfSpaces : List ℕ
+nineOfSpaces = 0x10 ∷ 0x08 ∷ 0x04 ∷ 0x02 ∷ 0x01 ∷ 0x00 ∷ 0x80 ∷ 0x40 ∷ 0x20 ∷ []
+
 abbrev pub red : ℕ
 red = 1
 
@@ -97,7 +102,7 @@ green = 2
 -- ---- the cases
 
 unfoldable pub markedCases : List Case
-unfolding accepted oneOrNone unnumbered message corrected testsOf character framingPasses addressIn pattern shows showsIn showsOn boxedAt recordOf clean100
+unfolding accepted oneOrNone unnumbered message corrected testsOf character framingPasses addressIn pattern shows showsIn showsOn boxedAt oldRecordOf recordOf clean100
 markedCases =
     -- 1. 15→0, EA→15
     record { found = oneOrNone (message 0x15) ∷ oneOrNone (message 0xEA) ∷ []; marked = value 0 ∷ value 15 ∷ [] }
@@ -138,12 +143,10 @@ markedCases =
     }
     -- 12. 01 1D 41: the A is red on red
     ∷ record { found = showsOn (0x01 ∷ 0x1D ∷ 0x41 ∷ []) 2 ∷ []; marked = letter 0x41 (red ∷ red ∷ []) ∷ [] }
-    -- 13. A clean page 100 starts 20 00 00 00 10; the next nine bytes are 10 08 04 02 01 00 80 40 20
+    -- 13. A clean page 100 starts 20 00 00 00 10 in the old form; in the new its fifth byte is 11; the next nine bytes are 10 08 04 02 01 00 80 40 20
     ∷ record {
-      found = accepted (take 14 (recordOf clean100)) ∷ [];
-      marked =
-          accepted (0x20 ∷ 0x00 ∷ 0x00 ∷ 0x00 ∷ 0x10
-          ∷ 0x10 ∷ 0x08 ∷ 0x04 ∷ 0x02 ∷ 0x01 ∷ 0x00 ∷ 0x80 ∷ 0x40 ∷ 0x20 ∷ []) ∷ [];
+      found = accepted (take 14 (oldRecordOf clean100)) ∷ accepted (take 14 (recordOf clean100)) ∷ [];
+      marked = accepted (0x20 ∷ 0x00 ∷ 0x00 ∷ 0x00 ∷ 0x10 ∷ nineOfSpaces) ∷ accepted (0x20 ∷ 0x00 ∷ 0x00 ∷ 0x00 ∷ 0x11 ∷ nineOfSpaces) ∷ [];
     }
     ∷ []
 

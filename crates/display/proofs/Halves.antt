@@ -1,25 +1,28 @@
--- The laws of double height, of any page that is shown, by row and column: rows 0 and 23 make no double cell; a row that lies below no doubled one is what its codes
+-- The laws of double height, of any page that is shown, by row and column: rows 0, 23 and 24 make no double cell; a row that lies below no doubled one is what its codes
 -- alone give; a lower half is its upper half but for the word and stands under it, and each upper half has one; no two rows running both have an upper half.
 use mathlib.Core.Path.{_≡_, refl, _∙_, sym, ap}
 use mathlib.Core.Bool.{Bool, true, false, not, cond, _&&_, _||_, false≢true}
 use mathlib.Core.List.{List, [], _∷_, map}
 use Prim.Native.Nat.{ℕ, zero, suc, _+_, _*_, _<_, _≤_}
 use native.Mathlib.Omega.{arith}
-use lib.Dec.{eqb}
+use borrow.Author.Tests.{lt-leb}
+use lib.Dec.{eqb, leb}
 use lib.ListN.{length, getD, take, drop}
 use lib.Seq.{ext-getD, take-take}
 use Rattle.laws.proofs.Bools.{neither}
 use Rattle.laws.proofs.Lists.{getD-map, getD-part, length-part}
 use Rattle.grid.specs.Grid.{cellCount, columns, lastRow, rows}
-use Rattle.display.specs.Display.{along, cellAt, heightOf, next, ownCell, start, zeroCell}
+use Rattle.display.specs.Display.{along, cellAt, heightOf, next, ownCell, start, within, zeroCell}
 use Rattle.display.specs.Pages.{
   Displayed,
   displayed,
   doubleCode,
   doubled,
+  firstDouble,
   hasDouble,
   isDouble,
   isPage,
+  lastDouble,
   lowerHalf,
   mayDouble,
   pageCells,
@@ -39,6 +42,21 @@ use Rattle.display.proofs.Firsts.{first-alone, plain-alone}
 use Rattle.display.proofs.Pages.{page-is, shown-page}
 use Rattle.display.proofs.Rows.{belowDoubled, doubled-is, shown-alone, shown-under, doubled-free, alone-is, alone-forty, page-length, cell-at}
 use Rattle.display.proofs.Steps.{along-none, along-cons}
+
+-- ---- past the last row on which 0D counts no row is doubled
+
+and-false : (b : Bool) → b && false ≡ false
+and-false true = refl
+and-false false = refl
+
+may-not : (row : ℕ) → lastDouble < row → mayDouble row ≡ false
+unfolding mayDouble within
+may-not row late = ap (λ (low : Bool). leb firstDouble row && low) (lt-leb row lastDouble late) ∙ and-false (leb firstDouble row)
+
+late-plain : (codes : List ℕ) (row : ℕ) → lastDouble < row → doubled codes row ≡ false
+unfolding doubled
+late-plain codes zero late = refl
+late-plain codes (suc above) late = ap (λ (may : Bool). may && (not (doubled codes above) && hasDouble (rowCodes codes (suc above)))) (may-not (suc above) late)
 
 -- ---- a row in which no 0D counts has no double cell
 
@@ -198,7 +216,7 @@ module _ (codes : List ℕ) (page : isPage codes ≡ true) where
   alone-normal row column h k free none =
       has-alone row column h k IsNormal (calm-row (mayDouble row) (rowCodes codes row) start none start-calm) free
 
-  -- rows 0 and 23 make no double cell themselves: where one has any, it is below a doubled row
+  -- rows 0, 23 and 24 make no double cell themselves: where one has any, it is below a doubled row
   pub made-normal : (row column : ℕ) → row < rows → column < columns → mayDouble row ≡ false → belowDoubled codes row ≡ false
       → cellIn row column .height ≡ Normal
   made-normal row column h k plain free = alone-normal row column h k free (rw plain)
@@ -221,13 +239,18 @@ module _ (codes : List ℕ) (page : isPage codes ≡ true) where
       let none = not-doubled (mayDouble row) (belowDoubled codes row) (hasDouble (rowCodes codes row)) (doubled-is codes row ∙ plain) e in
       differ (sym (alone-normal row column h k e none) ∙ upper) (λ n. omega arith)
 
-  pub row-23-normal : (column : ℕ) → column < columns → belowDoubled codes lastRow ≡ false → cellIn lastRow column .height ≡ Normal
-  unfolding mayDouble
-  row-23-normal column k free = made-normal lastRow column (omega arith) k refl free
+  -- the rows past the last on which 0D counts
+  module _ (row : ℕ) (late : lastDouble < row) (h : row < rows) where
+    pub late-normal : (column : ℕ) → column < columns → belowDoubled codes row ≡ false → cellIn row column .height ≡ Normal
+    late-normal column k free = made-normal row column h k (may-not row late) free
 
-  pub row-23-not-upper : (column : ℕ) → column < columns → cellIn lastRow column .height ≡ Upper → ⊥
+    pub late-not-upper : (column : ℕ) → column < columns → cellIn row column .height ≡ Upper → ⊥
+    late-not-upper column k upper = no-upper row column (belowDoubled codes row) refl h k (late-plain codes row late) upper
+
+  -- row 23 can be the lower half of row 22; row 24 lies below a row that is never doubled
+  pub last-row-normal : (column : ℕ) → column < columns → cellIn lastRow column .height ≡ Normal
   unfolding doubled mayDouble
-  row-23-not-upper column k upper = no-upper lastRow column (belowDoubled codes lastRow) refl (omega arith) k refl upper
+  last-row-normal column k = late-normal lastRow (omega arith) (omega arith) column k refl
 
   -- no two rows running both have an upper half
   two-upper : (row column column′ : ℕ) → suc row < rows → column < columns → column′ < columns → (double : Bool) → doubled codes row ≡ double

@@ -1,4 +1,4 @@
--- A page as a whole: when it is shown and when it is refused, and that it has always 960 cells.
+-- A page as a whole: when it is shown and when it is refused, and that it has always the grid's cells.
 use mathlib.Core.Path.{_≡_, refl}
 use mathlib.Core.Bool.{Bool, true, false, cond}
 use mathlib.Core.List.{List, [], _∷_}
@@ -16,7 +16,7 @@ use Rattle.display.specs.Private.{answerIf}
 use Rattle.display.proofs.Rows.{page-length}
 use Rattle.display.proofs.Steps.{codes-none, codes-cons}
 
--- 960 codes of 00 to 7F are shown
+-- as many codes as the grid's cells, of 00 to 7F, are shown
 pub shown-page : (codes : List ℕ) → isPage codes ≡ true → displayed codes ≡ record { answer = accepted []; cells = pageCells codes }
 unfolding displayed
 shown-page codes e = rw e
@@ -26,7 +26,7 @@ pub refused-page : (codes : List ℕ) → isPage codes ≡ false → displayed c
 unfolding displayed
 refused-page codes e = rw e
 
--- a page has 960 codes, each of 00 to 7F
+-- a page has as many codes as the grid's cells, each of 00 to 7F
 pub page-is : (codes : List ℕ) → isPage codes ≡ true → (length codes ≡ cellCount) × (allCodes codes ≡ true)
 unfolding isPage
 page-is codes e =
@@ -38,7 +38,7 @@ all-codes [] h = codes-none
 all-codes (code ∷ codes) h =
     rw (codes-cons code codes, le-leb code 0x7F (h 0 (omega arith))) (all-codes codes (λ i k. h (suc i) (omega arith)))
 
--- 960 codes, each of 00 to 7F, are a page
+-- so many codes, each of 00 to 7F, are a page
 pub a-page : (codes : List ℕ) → length codes ≡ cellCount → ((i : ℕ) → i < length codes → getD codes i 0 ≤ 0x7F) → isPage codes ≡ true
 unfolding isPage
 a-page codes e h = rw (eq-eqb (length codes) cellCount e) (all-codes codes h)
@@ -51,7 +51,7 @@ always : (codes : List ℕ) (page : Bool) → isPage codes ≡ page → length (
 always codes true e = rw (shown-page codes e) (page-length codes (page-is codes e .0))
 always codes false e = rw (refused-page codes e) zeros-length
 
--- the page has always 960 cells, shown or refused
+-- the page has always the grid's cells, shown or refused
 pub always-whole : (codes : List ℕ) → length (displayed codes .cells) ≡ cellCount
 always-whole codes = always codes (isPage codes) refl
 

@@ -118,7 +118,7 @@ pub undone : doubledFirst undoneOnRow1 ≡ false ∷ true ∷ false ∷ false �
 unfolding doubled
 undone = refl
 
--- 0D counts on rows 1 and 22, and not on rows 0 and 23
-pub first-and-last : map mayDouble (0 ∷ 1 ∷ 22 ∷ 23 ∷ []) ≡ false ∷ true ∷ true ∷ false ∷ []
+-- 0D counts on rows 1 and 22, and not on rows 0, 23 and 24
+pub first-and-last : map mayDouble (0 ∷ 1 ∷ 22 ∷ 23 ∷ 24 ∷ []) ≡ false ∷ true ∷ true ∷ false ∷ false ∷ []
 unfolding mayDouble
 first-and-last = refl

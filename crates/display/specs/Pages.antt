@@ -1,5 +1,5 @@
 -- Document 02, request 1: a row alone, by whether 0D counts on it; which rows are doubled; what the row below a doubled one shows; the page. Then refusal 25, which
--- asks for the page's 960 codes, and the answer.
+-- asks for the page's 1,000 codes, and the answer. With request 5, row 24 is one of the page's.
 use mathlib.Core.Bool.{Bool, true, false, not, cond, _&&_, _||_}
 use mathlib.Core.List.{List, [], _∷_, _++_, map}
 use Prim.Native.Nat.{ℕ, zero, suc, _*_}
@@ -32,7 +32,7 @@ unfoldable pub mayDouble : ℕ → Bool
 unfolding within
 mayDouble row = within firstDouble lastDouble row
 
--- on rows 0 and 23 the code 0D does nothing: it is read as 00, a control code with no effect
+-- on rows 0, 23 and 24 the code 0D does nothing: it is read as 00, a control code with no effect
 unfoldable pub readAs : Bool → ℕ → ℕ
 readAs counts code = cond (not counts && eqb code doubleCode) 0x00 code
 
@@ -124,7 +124,7 @@ unfoldable pub allCodes : List ℕ → Bool
 unfolding every
 allCodes codes = every (λ (code : ℕ). leb code 0x7F) codes
 
--- the page's 960 codes
+-- the page's 1,000 codes
 unfoldable pub isPage : List ℕ → Bool
 unfolding allCodes
 isPage codes = eqb (length codes) cellCount && allCodes codes
@@ -139,7 +139,7 @@ pub record Displayed : Type 0 where
   pub answer : Paper
   pub cells : List Cell
 
--- what is not 960 codes of 00 to 7F is refused by 25
+-- what is not 1,000 codes of 00 to 7F is refused by 25
 unfoldable pub displayed : List ℕ → Displayed
 unfolding isPage pageCells zeroCells accepted refusedBy
 displayed codes =

@@ -1,4 +1,4 @@
-// Display cells: what each of a page's 960 cells shows, worked out from the page's codes.
+// Display cells: what each of a page's cells shows, worked out from the page's codes.
 mod doubling;
 mod state;
 
@@ -42,7 +42,7 @@ pub struct Cell {
     pub height: Height,
 }
 
-// Whether a page was shown, or refused because it is not 960 codes of 00 to 7F.
+// Whether a page was shown, or refused because it is not a page's codes, as many as its cells, of 00 to 7F.
 pub enum DisplayAnswer {
     Shown,
     Refused,
@@ -54,7 +54,7 @@ pub struct DisplayedPage {
     pub cells: [Cell; CELLS],
 }
 
-// Whether these are 960 codes of 00 to 7F. Every code is asked, with no branch, which is cheaper than to stop at the first that is none.
+// Whether these are a page's codes, of 00 to 7F. Every code is asked, with no branch, which is cheaper than to stop at the first that is none.
 fn is_page(codes: &[u8]) -> bool
     ensures { λ r. ⌜ r ≡ isPage (now (codes .entry)) ⌝ }
 {

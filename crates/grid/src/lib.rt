@@ -1,5 +1,5 @@
 // The grid of a page. Rows and columns are said here and nowhere else: every other number of a page or of its record comes from them.
-pub const ROWS: usize = 24;
+pub const ROWS: usize = 25;
 
 pub const COLUMNS: usize = 40;
 

@@ -266,7 +266,7 @@ module _ (d : ℕ) (s r : List ℕ) (sent : T (sentByRules s)) (damaged : T (dam
       T (oddByte (getD (columnBytes (linePacket s)) c 0))
       × T (noneOrOdd (getD (columnBytes (linePacket s)) c 0) (getD (columnBytes (linePacket r)) c 0))
 
-  -- in rows 1 to 23 every column does
+  -- in the rows below row 0 that carry characters every column does
   pub text-carries : 1 ≤ sentRow s → sentRow s ≤ lastRow → (c : ℕ) → c < columns → Carries c
   text-carries low high c h =
       let ps = sent-packet s sent in

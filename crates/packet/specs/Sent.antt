@@ -1,6 +1,6 @@
 -- Document 01, "Addresses and headers": "sent by the rules" means 45 bytes, framing and Hamming bytes exact, character bytes odd. And the damage of a
 -- received line against the line that was sent, byte by byte. Which bytes are which goes by the line as sent; the run-in is free, and so is what
--- follows the address in rows 24 to 31.
+-- follows the address in rows 25 to 31, by document 02, request 5.
 use mathlib.Core.Bool.{Bool, true, cond, _&&_, _||_}
 use mathlib.Core.List.{List, map}
 use Prim.Native.Nat.{ℕ, _%_}
@@ -62,7 +62,7 @@ unfoldable pub oddByte : ℕ → Bool
 unfolding odd ones
 oddByte byte = odd (ones byte)
 
--- past the address: in row 0 eight Hamming bytes and 32 characters, in rows 1 to 23 40 characters
+-- past the address: in row 0 eight Hamming bytes and 32 characters, in rows 1 to 24 40 characters
 unfoldable pub rowByRules : ℕ → List ℕ → Bool
 unfolding every exactByte oddByte packetBytes
 rowByRules row packet =

@@ -1,4 +1,4 @@
--- Document 01, "Addresses and headers": rows 1 to 23 carry 40 characters, row 0 32 characters for columns 8 to 39. Column 0's byte follows the
+-- Document 01, "Addresses and headers": rows 1 to 24, by document 02, request 5, carry 40 characters, row 0 32 characters for columns 8 to 39. Column 0's byte follows the
 -- address, so in row 0 the header's eight messages stand where the columns 0 to 7 would.
 use mathlib.Core.Bool.{cond}
 use mathlib.Core.List.{List, []}

@@ -34,7 +34,7 @@ use Rattle.laws.proofs.Table.{tabulate}
 use Rattle.laws.proofs.Tabulated.{tabulated}
 use Rattle.grid.specs.Grid.{columns}
 use Rattle.packet.specs.Headers.{headerValues}
-use Rattle.packing.specs.Cells.{cellValues, cellWidths, characterWidth, markWidth}
+use Rattle.packing.specs.Cells.{cellFields, cellValues, cellWidths, characterWidth, markWidth}
 use Rattle.packing.proofs.Splits.{length-cell-fields, length-characters, length-marks}
 use Rattle.packing.proofs.Values.{cells-there, characters-back, fit-cells, marks-back}
 use Rattle.page.specs.Lawful.{cellsFit, cellsLawful, digitsLawful, headerFits, magazineFits, pageFits}
@@ -43,27 +43,31 @@ use Rattle.page.specs.Reading.{pageInRows, readAnswerFor}
 use Rattle.page.specs.Records.{
   cellsFrom,
   cellsOf,
+  codeFrom,
   headLength,
   headValues,
   headWidths,
   headerWidths,
   magazineFrom,
   magazineValue,
+  oldRows,
   pageFrom,
   recordFor,
   recordLengthOf,
   recordWidthsOf,
+  rowCode,
   valuesIn,
   valuesOf,
-  zeroFrom,
 }
 use Rattle.page.specs.Writing.{pageAnswer}
+use Rattle.page.specs.declared.Cells.{Cells}
 use Rattle.page.specs.declared.Page.{Page}
 use Rattle.page.specs.declared.ReadAnswer.the-variants as read
 use Rattle.page.specs.declared.WriteAnswer.the-variants.{Written, TooLarge, BadDigit, UnlawfulCells}
 use Rattle.page.proofs.Forms.{
   cells-fit,
   cellsIn,
+  code-is,
   head-fields-fit,
   headCount,
   headIn,
@@ -75,12 +79,22 @@ use Rattle.page.proofs.Forms.{
   page-is,
   total-record,
   values-split,
-  zero-is,
 }
 
--- a page of so many rows
+-- cells of so many rows, and a page of them
+abbrev pub CellsFor : ℕ → Cells → Type 0
+CellsFor n cells = (length (cells .characters) ≡ n * columns) × (length (cells .marks) ≡ n * columns)
+
 abbrev pub WholeFor : ℕ → Page → Type 0
-WholeFor n page = (length (page .cells .characters) ≡ n * columns) × (length (page .cells .marks) ≡ n * columns)
+WholeFor n page = CellsFor n (page .cells)
+
+-- as are read from any bytes
+pub whole-cells : (n : ℕ) (bytes : List ℕ) → CellsFor n (cellsFrom (cellFields (n * columns) bytes))
+unfolding cellsFrom
+whole-cells n bytes =
+    let values = cellFields (n * columns) bytes in
+    let long = length-cell-fields (n * columns) bytes in
+    (length-characters (n * columns) values long, length-marks (n * columns) values long)
 
 -- ---- the parts, there and back
 
@@ -112,12 +126,12 @@ module _ (page : Page) (taken : pageAnswer page ≡ Written) where
   by-answer true false l e = absurd (let z : _≡_ {A = ℕ} 0 1 = cc in omega arith)
   by-answer false d l e = absurd (let z : _≡_ {A = ℕ} 0 1 = cc in omega arith)
 
-  shown : (pageFits page ≡ true) × (digitsLawful (page .header) ≡ true) × (cellsLawful (page .cells) ≡ true)
+  pub shown : (pageFits page ≡ true) × (digitsLawful (page .header) ≡ true) × (cellsLawful (page .cells) ≡ true)
   unfolding pageAnswer
   shown = by-answer (pageFits page) (digitsLawful (page .header)) (cellsLawful (page .cells)) taken
 
 by-read : (w z d l : Bool)
-    → cond w (cond z (cond d (cond l read.Read read.UnlawfulCells) read.BadDigit) read.NotZero) read.WrongLength ≡ read.Read
+    → cond w (cond z (cond d (cond l read.Read read.UnlawfulCells) read.BadDigit) read.WrongRowCode) read.WrongLength ≡ read.Read
     → (w ≡ true) × (z ≡ true) × (d ≡ true) × (l ≡ true)
 by-read true true true true e = (refl, refl, refl, refl)
 by-read true true true false e = absurd (let z : _≡_ {A = ℕ} 0 1 = cc in omega arith)
@@ -129,6 +143,17 @@ clean-fits : (clean : Bool) → cond clean 1 0 < 2
 clean-fits true = omega arith
 clean-fits false = omega arith
 
+-- a row code is 0 or 1, and fits its bits
+one-or-none : (old : Bool) → cond old 0 1 ≤ 1
+one-or-none true = omega arith
+one-or-none false = omega arith
+
+pub code-at-most-1 : (n : ℕ) → rowCode n ≤ 1
+code-at-most-1 n = one-or-none (eqb n oldRows)
+
+code-fits : (n : ℕ) → rowCode n < 16
+code-fits n = omega (arith, code-at-most-1 n)
+
 magazine-fits : (value : ℕ) → value < 8 → magazineFits (magazineFrom value) ≡ true
 unfolding allBelow magazineFits magazineFrom
 magazine-fits value h =
@@ -139,7 +164,7 @@ module _ (n : ℕ) where
 
   module _ (page : Page) (whole : WholeFor n page) (taken : pageAnswer page ≡ Written) where
     abbrev head : List ℕ
-    head = headValues (page .magazine) (page .header) (page .clean)
+    head = headValues (page .magazine) (page .header) (page .clean) (rowCode n)
 
     abbrev cells : List ℕ
     cells = cellValues (page .cells .marks) (page .cells .characters)
@@ -165,34 +190,34 @@ module _ (n : ℕ) where
     unfolding headValues magazineValue
     fit-head = (
       mod-lt (page .magazine) (zero-lt-suc 7),
-      fit-append headerWidths (headerValues (page .header)) (1 ∷ 4 ∷ []) (cond (page .clean) 1 0 ∷ 0 ∷ []) fit-header (clean-fits (page .clean), (zero-lt-suc 15, tt)),
+      fit-append headerWidths (headerValues (page .header)) (1 ∷ 4 ∷ []) (cond (page .clean) 1 0 ∷ rowCode n ∷ []) fit-header (clean-fits (page .clean), (code-fits n, tt)),
     )
 
     -- none of its values is too large
-    fit-values : Fit (recordWidthsOf n) (valuesOf page)
+    fit-values : Fit (recordWidthsOf n) (valuesOf n page)
     unfolding recordWidthsOf valuesOf cellsFit
     fit-values =
         let fit = both-true (every (fits markWidth) (page .cells .marks)) (every (fits characterWidth) (page .cells .characters)) (parts .2) in
         fit-append headWidths head (cellWidths (n * columns)) cells fit-head
         (fit-cells (n * columns) (page .cells .marks) (page .cells .characters) (whole .1) (whole .0) (subst T (sym (fit .0)) tt) (subst T (sym (fit .1)) tt))
 
-    bits-whole : length (fieldsBits (recordWidthsOf n) (valuesOf page)) ≡ 8 * recordLengthOf n
-    bits-whole = length-bits (recordWidthsOf n) (valuesOf page) (fit-length (recordWidthsOf n) (valuesOf page) fit-values) ∙ total-record n
+    bits-whole : length (fieldsBits (recordWidthsOf n) (valuesOf n page)) ≡ 8 * recordLengthOf n
+    bits-whole = length-bits (recordWidthsOf n) (valuesOf n page) (fit-length (recordWidthsOf n) (valuesOf n page) fit-values) ∙ total-record n
 
     pub record-bytes-for : AreBytes (recordFor n page)
     unfolding recordFor
     record-bytes-for =
-        bytes-are-bytes (recordLengthOf n) (fieldsBits (recordWidthsOf n) (valuesOf page)) (fields-bits (recordWidthsOf n) (valuesOf page)) bits-whole
+        bytes-are-bytes (recordLengthOf n) (fieldsBits (recordWidthsOf n) (valuesOf n page)) (fields-bits (recordWidthsOf n) (valuesOf n page)) bits-whole
 
     -- its values are read back
-    values-back : valuesIn n (recordFor n page) ≡ valuesOf page
+    values-back : valuesIn n (recordFor n page) ≡ valuesOf n page
     unfolding valuesIn recordFor
     values-back =
         ap (fieldsOf (recordWidthsOf n))
-        (bits-of-bytes (recordLengthOf n) (fieldsBits (recordWidthsOf n) (valuesOf page)) (fields-bits (recordWidthsOf n) (valuesOf page)) bits-whole)
-        ∙ fields-back (recordWidthsOf n) (valuesOf page) fit-values
+        (bits-of-bytes (recordLengthOf n) (fieldsBits (recordWidthsOf n) (valuesOf n page)) (fields-bits (recordWidthsOf n) (valuesOf n page)) bits-whole)
+        ∙ fields-back (recordWidthsOf n) (valuesOf n page) fit-values
 
-    page-back : pageFrom (valuesOf page) ≡ page
+    page-back : pageFrom (valuesOf n page) ≡ page
     unfolding valuesOf headValues headerValues pageFrom
     page-back =
         let same = whole .1 ∙ sym (whole .0) in
@@ -209,9 +234,9 @@ module _ (n : ℕ) where
     unfolding pageInRows
     in-record-for = ap pageFrom values-back ∙ page-back
 
-    zeros-back : eqb (zeroFrom (valuesIn n (recordFor n page))) 0 ≡ true
-    unfolding zeroFrom valuesOf headValues headerValues
-    zeros-back = ap (λ (values : List ℕ). eqb (zeroFrom values) 0) values-back
+    code-back : eqb (codeFrom (valuesIn n (recordFor n page))) (rowCode n) ≡ true
+    unfolding codeFrom valuesOf headValues headerValues
+    code-back = eq-eqb _ _ (ap codeFrom values-back)
 
     pub reads-written-for : readAnswerFor n (recordFor n page) ≡ read.Read
     unfolding readAnswerFor
@@ -219,13 +244,13 @@ module _ (n : ℕ) where
         let long = eq-eqb (length (recordFor n page)) (recordLengthOf n) (length-record-for n page) in
         let digits = ap (λ (p : Page). digitsLawful (p .header)) in-record-for ∙ shown page taken .1 in
         let lawful = ap (λ (p : Page). cellsLawful (p .cells)) in-record-for ∙ shown page taken .2 in
-        λ i. cond (long i) (cond (zeros-back i) (cond (digits i) (cond (lawful i) read.Read read.UnlawfulCells) read.BadDigit) read.NotZero) read.WrongLength
+        λ i. cond (long i) (cond (code-back i) (cond (digits i) (cond (lawful i) read.Read read.UnlawfulCells) read.BadDigit) read.WrongRowCode) read.WrongLength
 
   -- ---- a record that is read
 
   -- the values of the page of a head's values and the cells'
-  values-there : (head cells : List ℕ) → length head ≡ headCount → Fit headWidths head → headFrom head .zero ≡ 0 → length cells ≡ 2 * (n * columns)
-      → valuesOf (headed (headFrom head) (cellsFrom cells)) ≡ head ++ cells
+  values-there : (head cells : List ℕ) → length head ≡ headCount → Fit headWidths head → headFrom head .code ≡ rowCode n → length cells ≡ 2 * (n * columns)
+      → valuesOf n (headed (headFrom head) (cellsFrom cells)) ≡ head ++ cells
   unfolding valuesOf headValues headerValues headFrom cellsFrom
   values-there head cells e fit z l =
       let ten = tabulated headCount head e in
@@ -250,13 +275,13 @@ module _ (n : ℕ) where
   module _ (bytes : List ℕ) (taken : readAnswerFor n bytes ≡ read.Read) where
     abbrev Lawful : Type 0
     Lawful =
-        (eqb (length bytes) (recordLengthOf n) ≡ true) × (eqb (zeroFrom (valuesIn n bytes)) 0 ≡ true)
+        (eqb (length bytes) (recordLengthOf n) ≡ true) × (eqb (codeFrom (valuesIn n bytes)) (rowCode n) ≡ true)
         × (digitsLawful (pageInRows n bytes .header) ≡ true) × (cellsLawful (pageInRows n bytes .cells) ≡ true)
 
     read-shown : Lawful
     unfolding readAnswerFor
     read-shown =
-        by-read (eqb (length bytes) (recordLengthOf n)) (eqb (zeroFrom (valuesIn n bytes)) 0) (digitsLawful (pageInRows n bytes .header))
+        by-read (eqb (length bytes) (recordLengthOf n)) (eqb (codeFrom (valuesIn n bytes)) (rowCode n)) (digitsLawful (pageInRows n bytes .header))
         (cellsLawful (pageInRows n bytes .cells)) taken
 
     pub read-whole-for : length bytes ≡ recordLengthOf n
@@ -280,16 +305,15 @@ module _ (n : ℕ) where
     length-in-head : length inHead ≡ headCount
     length-in-head = length-head-fields (take headLength bytes)
 
-    values-of : valuesOf (pageInRows n bytes) ≡ valuesIn n bytes
+    values-of : valuesOf n (pageInRows n bytes) ≡ valuesIn n bytes
     values-of =
-        let zeros = sym (zero-is n bytes read-whole-for) ∙ eqb-true (zeroFrom (valuesIn n bytes)) 0 (read-shown .1) in
-        ap valuesOf page-of ∙ (values-there inHead inCells length-in-head head-fit zeros length-cells ∙ sym (values-split n bytes read-whole-for))
+        let code = sym (code-is n bytes read-whole-for) ∙ eqb-true (codeFrom (valuesIn n bytes)) (rowCode n) (read-shown .1) in
+        ap (valuesOf n) page-of ∙ (values-there inHead inCells length-in-head head-fit code length-cells ∙ sym (values-split n bytes read-whole-for))
 
     pub whole-read-for : WholeFor n (pageInRows n bytes)
-    unfolding cellsFrom
     whole-read-for = (
-      ap (λ (p : Page). length (p .cells .characters)) page-of ∙ length-characters (n * columns) inCells length-cells,
-      ap (λ (p : Page). length (p .cells .marks)) page-of ∙ length-marks (n * columns) inCells length-cells,
+      ap (λ (p : Page). length (p .cells .characters)) page-of ∙ whole-cells n (drop headLength bytes) .0,
+      ap (λ (p : Page). length (p .cells .marks)) page-of ∙ whole-cells n (drop headLength bytes) .1,
     )
 
     fits-read : pageFits (pageInRows n bytes) ≡ true

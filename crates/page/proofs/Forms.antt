@@ -30,7 +30,22 @@ use Rattle.packing.proofs.Values.{fit-characters, fit-marks}
 use Rattle.page.specs.Lawful.{cellsFit}
 use Rattle.page.specs.Private.{headBytes, headFields, headFrom}
 use Rattle.page.specs.Reading.{pageInRows}
-use Rattle.page.specs.Records.{cellsFrom, headLength, headValues, headWidths, pageFrom, pageOf, recordFor, recordLengthOf, recordWidthsOf, rowLength, valuesIn, valuesOf, zeroFrom}
+use Rattle.page.specs.Records.{
+  cellsFrom,
+  codeFrom,
+  headLength,
+  headValues,
+  headWidths,
+  pageFrom,
+  pageOf,
+  recordFor,
+  recordLengthOf,
+  recordWidthsOf,
+  rowCode,
+  rowLength,
+  valuesIn,
+  valuesOf,
+}
 use Rattle.page.specs.declared.Cells.{Cells}
 use Rattle.page.specs.declared.Page.{Page}
 use Rattle.page.specs.declared.reading.Head.{Head}
@@ -41,9 +56,9 @@ use Rattle.page.specs.declared.reading.Head.{Head}
 abbrev pub headCount : ℕ
 headCount = length headWidths
 
-pub length-head : (magazine : ℕ) (header : Header) (clean : Bool) → length (headBytes magazine header clean) ≡ headLength
+pub length-head : (magazine : ℕ) (header : Header) (clean : Bool) (code : ℕ) → length (headBytes magazine header clean code) ≡ headLength
 unfolding headBytes
-length-head magazine header clean = length-bytes headLength (fieldsBits headWidths (headValues magazine header clean))
+length-head magazine header clean code = length-bytes headLength (fieldsBits headWidths (headValues magazine header clean code))
 
 pub length-head-fields : (bytes : List ℕ) → length (headFields bytes) ≡ headCount
 unfolding headFields
@@ -65,10 +80,10 @@ page-split head cells e =
     ap (λ (xs : List ℕ). pageFrom (xs ++ cells)) (tabulated headCount head e)
     ∙ ap (λ (xs : List ℕ). headed (headFrom xs) (cellsFrom cells)) (sym (tabulated headCount head e))
 
-zero-split : (head cells : List ℕ) → length head ≡ headCount → zeroFrom (head ++ cells) ≡ headFrom head .zero
-unfolding zeroFrom headFrom
-zero-split head cells e =
-    ap (λ (xs : List ℕ). zeroFrom (xs ++ cells)) (tabulated headCount head e) ∙ ap (λ (xs : List ℕ). headFrom xs .zero) (sym (tabulated headCount head e))
+code-split : (head cells : List ℕ) → length head ≡ headCount → codeFrom (head ++ cells) ≡ headFrom head .code
+unfolding codeFrom headFrom
+code-split head cells e =
+    ap (λ (xs : List ℕ). codeFrom (xs ++ cells)) (tabulated headCount head e) ∙ ap (λ (xs : List ℕ). headFrom xs .code) (sym (tabulated headCount head e))
 
 -- ---- so many rows
 
@@ -80,14 +95,14 @@ module _ (n : ℕ) where
 
   pub length-record-for : (page : Page) → length (recordFor n page) ≡ recordLengthOf n
   unfolding recordFor
-  length-record-for page = length-bytes (recordLengthOf n) (fieldsBits (recordWidthsOf n) (valuesOf page))
+  length-record-for page = length-bytes (recordLengthOf n) (fieldsBits (recordWidthsOf n) (valuesOf n page))
 
   -- written
   pub record-split : (page : Page) → recordFor n page
-      ≡ headBytes (page .magazine) (page .header) (page .clean) ++ cellBytes (n * columns) (n * rowLength) (page .cells .marks) (page .cells .characters)
+      ≡ headBytes (page .magazine) (page .header) (page .clean) (rowCode n) ++ cellBytes (n * columns) (n * rowLength) (page .cells .marks) (page .cells .characters)
   unfolding recordFor headBytes cellBytes total
   record-split page =
-      let head = headValues (page .magazine) (page .header) (page .clean) in
+      let head = headValues (page .magazine) (page .header) (page .clean) (rowCode n) in
       let cells = cellValues (page .cells .marks) (page .cells .characters) in
       ap (bytesOf (recordLengthOf n)) (bits-of-append headWidths head (cellWidths (n * columns)) cells refl)
       ∙ bytes-append headLength (n * rowLength) (fieldsBits headWidths head) (fieldsBits (cellWidths (n * columns)) cells) (length-bits headWidths head refl)
@@ -127,5 +142,5 @@ module _ (n : ℕ) where
     unfolding pageInRows
     page-is = ap pageFrom values-split ∙ page-split headIn cellsIn (length-head-fields (take headLength bytes))
 
-    pub zero-is : zeroFrom (valuesIn n bytes) ≡ headFrom headIn .zero
-    zero-is = ap zeroFrom values-split ∙ zero-split headIn cellsIn (length-head-fields (take headLength bytes))
+    pub code-is : codeFrom (valuesIn n bytes) ≡ headFrom headIn .code
+    code-is = ap codeFrom values-split ∙ code-split headIn cellsIn (length-head-fields (take headLength bytes))

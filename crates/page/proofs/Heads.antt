@@ -3,7 +3,7 @@ use mathlib.Core.Path.{_≡_, refl, _∙_, ap, sym}
 use mathlib.Core.Bool.{Bool, true, false, cond}
 use mathlib.Core.List.{List, [], _∷_, _++_, append-nil}
 use Prim.Native.Nat.{ℕ, _+_, _*_, _/_, _%_, _^_, _<_, _≤_}
-use native.Mathlib.Nat.{add-zero, div-div-eq-div-mul, mod-mod}
+use native.Mathlib.Nat.{div-div-eq-div-mul, mod-mod}
 use native.Mathlib.Omega.{arith}
 use mir.Val.{boolByte}
 use lib.Dec.{eqb}
@@ -15,11 +15,12 @@ use Rattle.laws.proofs.Digits.{binary-digits, digits-binary, three-runs}
 use Rattle.laws.proofs.Fields.{bits-of-bits, bits-of-bytes-append, fields-of-append, length-bits-of}
 use Rattle.laws.proofs.Tabulated.{cons-is}
 use Rattle.laws.proofs.Words.{fields-cut}
+use Rattle.grid.specs.Grid.{rows}
 use Rattle.packet.specs.Headers.{headerValues}
 use Rattle.packet.specs.declared.Header.{Header}
 use Rattle.packing.specs.Cells.{groupCells}
 use Rattle.page.specs.Private.{headBytes, headFields, headFrom}
-use Rattle.page.specs.Records.{headLength, headValues, headWidths, magazineFrom, magazineValue}
+use Rattle.page.specs.Records.{headLength, headValues, headWidths, magazineFrom, magazineValue, rowCode}
 use Rattle.page.specs.declared.reading.Head.{Head}
 
 module _ (g t u ht hu mt mu co cl z : ℕ) where
@@ -49,9 +50,9 @@ module _ (g t u ht hu mt mu co cl z : ℕ) where
       (cons-is (sym (three-runs 1 3 4 hu mt mu)) (cons-is (sym (binary-digits 8 (co / 8))) (cons-is (sym (three-runs 3 1 4 co cl z)) refl))))
 
 -- the last byte's clean bit
-clean-bit : (b : Bool) (n : ℕ) → n + boolByte b * 16 ≡ n + cond b 1 0 % 2 * 16 + 0 % 16
-clean-bit true n = sym (add-zero (n + 16))
-clean-bit false n = sym (add-zero (n + 0))
+clean-bit : (b : Bool) → boolByte b ≡ cond b 1 0 % 2
+clean-bit true = refl
+clean-bit false = refl
 
 pub bit-below : (b : Bool) → boolByte b < 2
 bit-below true = omega arith
@@ -62,16 +63,16 @@ pub five-bytes : (magazine : ℕ) (h : Header) (clean : Bool) → _≡_ {A = Lis
     ∷ (h .units % 8 * 32 + h .«hours_tens» % 4 * 8 + h .«hours_units» / 2 % 8)
     ∷ (h .«hours_units» % 2 * 128 + h .«minutes_tens» % 8 * 16 + h .«minutes_units» % 16)
     ∷ h .control / 8 % 256
-    ∷ (h .control % 8 * 32 + boolByte clean * 16)
+    ∷ (h .control % 8 * 32 + boolByte clean * 16 + rowCode rows)
     ∷ [])
-    (headBytes magazine h clean)
+    (headBytes magazine h clean (rowCode rows))
 unfolding headBytes headValues magazineValue headerValues
 five-bytes magazine h clean =
     cons-is (ap (λ (n : ℕ). n * 32 + h .tens % 16 * 2 + h .units / 8 % 2) (sym (mod-mod magazine 8)))
-    (cons-is refl (cons-is refl (cons-is refl (cons-is (clean-bit clean (h .control % 8 * 32)) refl))))
-    ∙ (bytes-of-cut (magazine % 8) (h .tens) (h .units) (h .«hours_tens») (h .«hours_units») (h .«minutes_tens») (h .«minutes_units») (h .control) (cond clean 1 0) 0
+    (cons-is refl (cons-is refl (cons-is refl (cons-is (ap (λ (n : ℕ). h .control % 8 * 32 + n * 16 + rowCode rows) (clean-bit clean)) refl))))
+    ∙ (bytes-of-cut (magazine % 8) (h .tens) (h .units) (h .«hours_tens») (h .«hours_units») (h .«minutes_tens») (h .«minutes_units») (h .control) (cond clean 1 0) (rowCode rows)
     ∙ ap (bytesOf headLength)
-    (sym (cut-is (magazine % 8) (h .tens) (h .units) (h .«hours_tens») (h .«hours_units») (h .«minutes_tens») (h .«minutes_units») (h .control) (cond clean 1 0) 0)))
+    (sym (cut-is (magazine % 8) (h .tens) (h .units) (h .«hours_tens») (h .«hours_units») (h .«minutes_tens») (h .«minutes_units») (h .control) (cond clean 1 0) (rowCode rows))))
 
 -- ---- and back
 
@@ -106,7 +107,7 @@ pub head-of-word : (word magazine : ℕ) → magazine ≡ magazineFrom (word / 2
         control = word / 2 ^ 29 % 2048;
       };
       clean = eqb (word / 2 ^ 28 % 2) 1;
-      zero = word / 2 ^ 24 % 16;
+      code = word / 2 ^ 24 % 16;
     })
     (headFrom (fieldsOf headWidths (digits 64 word)))
 unfolding headFrom total

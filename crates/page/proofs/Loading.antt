@@ -1,14 +1,20 @@
 -- The loop that reads the cells, group by group: what is read is the whole's beginning.
 use mathlib.Core.Path.{_≡_, refl, _∙_, ap, sym}
 use mathlib.Core.List.{List, [], _∷_, _++_}
-use Prim.Native.Nat.{ℕ, _+_, _*_, _<_, _≤_}
+use Prim.Native.Nat.{ℕ, _+_, _*_, _-_, _<_, _≤_}
 use native.Mathlib.Omega.{arith}
-use lib.ListN.{length, length-drop, getD, take, drop}
-use lib.Seq.{drop-drop}
+use lib.ListN.{length, length-drop, getD, replicate, take, drop}
+use lib.Seq.{drop-drop, take-all}
+use Rattle.laws.proofs.Lists.{drop-replicate}
 use Rattle.laws.proofs.Runs.{over, over-more}
+use Rattle.grid.specs.Grid.{cellCount, columns}
 use Rattle.packing.specs.Cells.{cellFields, charactersFrom, eightFrom, groupBytes, groupCells, marksFrom}
 use Rattle.packing.specs.declared.EightCells.{EightCells}
 use Rattle.packing.proofs.Places.{characters-at, marks-at}
+use Rattle.page.specs.Lawful.{never, space}
+use Rattle.page.specs.Private.{rowGroups}
+use Rattle.page.specs.Reading.{filled}
+use Rattle.page.specs.Records.{cellsFrom, cellsOf, headLength}
 use Rattle.page.proofs.Copies.{nine-taken}
 use Rattle.packing.proofs.Splits.{length-cell-fields, length-characters, length-marks}
 
@@ -73,3 +79,27 @@ module _ (groups at : ℕ) («record» : List ℕ) (long : length «record» ≡
           ∙ (ap charactersFrom joined
           ∙ sym (characters-at (groups * groupCells) (groups * groupBytes) (group * groupCells) (group * groupBytes) groupCells groupBytes (omega arith) refl (omega arith)
           (omega arith) bytes length-rest))
+
+-- ---- all of them laid over a blank grid
+
+-- a whole list over a longer one of nothing but one element
+over-blank : (a k : ℕ) (xs : List ℕ) → length xs ≡ k → over (replicate cellCount a) xs k ≡ xs ++ replicate (cellCount - length xs) a
+over-blank a k xs e =
+    (λ i. take-all k xs (omega arith) i ++ drop-replicate k cellCount a i) ∙ ap (λ (n : ℕ). xs ++ replicate (cellCount - n) a) (sym e)
+
+-- are the cells of so many rows, filled up
+pub laid-filled : (count groups : ℕ) → groups ≡ count * rowGroups → («record» characters marks : List ℕ)
+    → characters ≡ over (replicate cellCount space) (charactersFrom (cellFields (groups * groupCells) (drop headLength «record»))) (groups * groupCells)
+    → marks ≡ over (replicate cellCount never) (marksFrom (cellFields (groups * groupCells) (drop headLength «record»))) (groups * groupCells)
+    → cellsOf characters marks ≡ filled (cellsFrom (cellFields (count * columns) (drop headLength «record»)))
+unfolding filled cellsFrom
+laid-filled count groups g «record» characters marks e f =
+    let size : groups * groupCells ≡ count * columns = omega arith in
+    let values = cellFields (groups * groupCells) (drop headLength «record») in
+    let long = length-cell-fields (groups * groupCells) (drop headLength «record») in
+    let many = length-characters (groups * groupCells) values long in
+    let same : length (marksFrom values) ≡ length (charactersFrom values) = length-marks (groups * groupCells) values long ∙ sym many in
+    (λ i.
+    cellsOf ((e ∙ over-blank space (groups * groupCells) (charactersFrom values) many) i)
+    ((f ∙ (over-blank never (groups * groupCells) (marksFrom values) (same ∙ many) ∙ ap (λ (k : ℕ). marksFrom values ++ replicate (cellCount - k) never) same)) i))
+    ∙ ap (λ (n : ℕ). filled (cellsFrom (cellFields n (drop headLength «record»)))) size

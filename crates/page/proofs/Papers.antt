@@ -50,13 +50,13 @@ abbrev toRead : Option ℕ → ReadAnswer
 toRead none = read.Read
 toRead (some n) =
     cond (eqb n 0) read.Read
-    (cond (eqb n 20) read.WrongLength (cond (eqb n 21) read.NotZero (cond (eqb n 22) read.BadDigit read.UnlawfulCells)))
+    (cond (eqb n 20) read.WrongLength (cond (eqb n 21) read.WrongRowCode (cond (eqb n 22) read.BadDigit read.UnlawfulCells)))
 
 read-back : (r : ReadAnswer) → toRead (readPaper r .number) ≡ r
 unfolding readPaper
 read-back read.Read = refl
 read-back read.WrongLength = refl
-read-back read.NotZero = refl
+read-back read.WrongRowCode = refl
 read-back read.BadDigit = refl
 read-back read.UnlawfulCells = refl
 

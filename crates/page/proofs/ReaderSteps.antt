@@ -2,24 +2,39 @@
 use mathlib.Core.Path.{_≡_, refl, _∙_, ap, sym}
 use mathlib.Core.Bool.{Bool, true, false, cond}
 use mathlib.Core.List.{List}
-use Prim.Native.Nat.{ℕ}
+use Prim.Native.Nat.{ℕ, _≤_}
+use native.Mathlib.Omega.{arith}
 use borrow.Author.Tests.{eq-eqb, ne-eqb}
 use lib.Dec.{eqb}
-use lib.ListN.{length}
+use lib.ListN.{length, drop}
+use Rattle.laws.proofs.Keeps.{either}
 use Rattle.grid.specs.Grid.{rows}
 use Rattle.page.specs.Lawful.{cellsLawful, digitsLawful}
+use Rattle.page.specs.OldForm.{oldLength}
 use Rattle.page.specs.Private.{headFrom, headedRead, refusedRead}
-use Rattle.page.specs.Reading.{pageBeside, pageIn, pageInRows, pageRead, readAnswer, readPaper, zeroPage}
-use Rattle.page.specs.Records.{cellsFrom, recordLength, valuesIn, zeroFrom}
+use Rattle.page.specs.Reading.{filled, filledPage, pageBeside, pageIn, pageInRows, pageRead, readAnswer, readAnswerFor, readPaper, rowsIn, zeroPage}
+use Rattle.page.specs.Records.{cellsFrom, codeFrom, headLength, oldRows, recordLengthOf, rowCode, valuesIn}
+use Rattle.page.specs.declared.Cells.{Cells}
 use Rattle.page.specs.declared.Page.{Page}
 use Rattle.page.specs.declared.PageRead.{PageRead}
 use Rattle.page.specs.declared.ReadAnswer.{ReadAnswer}
-use Rattle.page.specs.declared.ReadAnswer.the-variants.{Read, WrongLength, NotZero, BadDigit, UnlawfulCells}
-use Rattle.page.proofs.Forms.{cellsIn, headIn, headed, page-is, zero-is}
+use Rattle.page.specs.declared.ReadAnswer.the-variants.{Read, WrongLength, WrongRowCode, BadDigit, UnlawfulCells}
+use Rattle.page.specs.declared.reading.Head.{Head}
+use Rattle.page.proofs.Forms.{cellsIn, code-is, headIn, headed, page-is}
+use Rattle.page.proofs.AnyRows.{whole-cells}
+use Rattle.page.proofs.Filled.{filled-lawful}
 
 -- the answer by four tests, in their order
 abbrev byFour : Bool → Bool → Bool → Bool → ReadAnswer
-byFour long zeros digits lawful = cond long (cond zeros (cond digits (cond lawful Read UnlawfulCells) BadDigit) NotZero) WrongLength
+byFour long code digits lawful = cond long (cond code (cond digits (cond lawful Read UnlawfulCells) BadDigit) WrongRowCode) WrongLength
+
+-- bytes of another length than that of so many rows are refused by 20
+pub answer-otherwise : (n : ℕ) (bytes : List ℕ) → (length bytes ≡ recordLengthOf n → ⊥) → readAnswerFor n bytes ≡ WrongLength
+unfolding readAnswerFor
+answer-otherwise n bytes h =
+    let page = pageInRows n bytes in
+    let code = eqb (codeFrom (valuesIn n bytes)) (rowCode n) in
+    ap (λ (long : Bool). byFour long code (digitsLawful (page .header)) (cellsLawful (page .cells))) (ne-eqb _ _ h)
 
 module _ (bytes : List ℕ) where
   -- what the reader promises of what it gives
@@ -36,47 +51,65 @@ module _ (bytes : List ℕ) where
   refused-is answer e z r is =
       (ap (λ (k : PageRead). readPaper (k .answer)) is ∙ answered answer e .0, ap (λ (k : PageRead). k .page) is ∙ (sym z ∙ answered answer e .1))
 
-  pub wrong-length : (length bytes ≡ recordLength → ⊥) → readAnswer bytes ≡ WrongLength
-  unfolding readAnswer
-  wrong-length h =
-      let page = pageInRows rows bytes in
-      let zeros = eqb (zeroFrom (valuesIn rows bytes)) 0 in
-      ap (λ (long : Bool). byFour long zeros (digitsLawful (page .header)) (cellsLawful (page .cells))) (ne-eqb _ _ h)
+  -- the rows of its form
+  pub rows-old : length bytes ≡ oldLength → rowsIn bytes ≡ oldRows
+  unfolding rowsIn
+  rows-old e = rw (eq-eqb _ _ e)
 
-  module _ (whole : length bytes ≡ recordLength) where
+  pub rows-new : (length bytes ≡ oldLength → ⊥) → rowsIn bytes ≡ rows
+  unfolding rowsIn
+  rows-new h = rw (ne-eqb _ _ h)
+
+  pub rows-within : (1 ≤ rowsIn bytes) × (rowsIn bytes ≤ rows)
+  unfolding rowsIn
+  rows-within = either (λ (n : ℕ). (1 ≤ n) × (n ≤ rows)) (eqb (length bytes) oldLength) oldRows rows (omega arith, omega arith) (omega arith, omega arith)
+
+  pub wrong-length : (n : ℕ) → n ≡ rowsIn bytes → (length bytes ≡ recordLengthOf n → ⊥) → readAnswer bytes ≡ WrongLength
+  unfolding readAnswer
+  wrong-length n is other = ap (λ (k : ℕ). readAnswerFor k bytes) (sym is) ∙ answer-otherwise n bytes other
+
+  module _ (n : ℕ) (is : n ≡ rowsIn bytes) (whole : length bytes ≡ recordLengthOf n) where
     -- what the head and the cells hold, which the code asks
-    abbrev zerosRead : Bool
-    zerosRead = eqb (headFrom (headIn rows bytes whole) .zero) 0
+    abbrev headRead : Head
+    headRead = headFrom (headIn n bytes whole)
+
+    abbrev cellsRead : Cells
+    cellsRead = cellsFrom (cellsIn n bytes whole)
+
+    abbrev codeRead : Bool
+    codeRead = eqb (headRead .code) (rowCode n)
 
     abbrev digitsRead : Bool
-    digitsRead = digitsLawful (headFrom (headIn rows bytes whole) .header)
+    digitsRead = digitsLawful (headRead .header)
 
     abbrev lawfulRead : Bool
-    lawfulRead = cellsLawful (cellsFrom (cellsIn rows bytes whole))
+    lawfulRead = cellsLawful (filled cellsRead)
 
-    page-in : pageIn bytes ≡ headed (headFrom (headIn rows bytes whole)) (cellsFrom (cellsIn rows bytes whole))
-    unfolding pageIn
-    page-in = page-is rows bytes whole
+    page-in : pageIn bytes ≡ headed headRead (filled cellsRead)
+    unfolding pageIn filledPage
+    page-in = ap (λ (k : ℕ). filledPage (pageInRows k bytes)) (sym is) ∙ ap filledPage (page-is n bytes whole)
 
     -- the answer by the tests that were asked
-    by-tests : (z d l : Bool) → zerosRead ≡ z → digitsRead ≡ d → lawfulRead ≡ l → readAnswer bytes ≡ byFour true z d l
+    by-tests : (z d l : Bool) → codeRead ≡ z → digitsRead ≡ d → lawfulRead ≡ l → readAnswer bytes ≡ byFour true z d l
     unfolding readAnswer
     by-tests z d l e f g =
-        let long = eq-eqb (length bytes) recordLength whole in
-        let zeros = ap (λ (n : ℕ). eqb n 0) (zero-is rows bytes whole) ∙ e in
-        let digits = ap (λ (page : Page). digitsLawful (page .header)) (page-is rows bytes whole) ∙ f in
-        let lawful = ap (λ (page : Page). cellsLawful (page .cells)) (page-is rows bytes whole) ∙ g in
-        λ i. byFour (long i) (zeros i) (digits i) (lawful i)
+        let within = rows-within in
+        let long = eq-eqb (length bytes) (recordLengthOf n) whole in
+        let code = ap (λ (k : ℕ). eqb k (rowCode n)) (code-is n bytes whole) ∙ e in
+        let digits = ap (λ (page : Page). digitsLawful (page .header)) (page-is n bytes whole) ∙ f in
+        let lawful = ap (λ (page : Page). cellsLawful (page .cells)) (page-is n bytes whole)
+        ∙ (sym (filled-lawful n (omega arith) cellsRead (whole-cells n (drop headLength bytes)) (omega arith)) ∙ g) in
+        ap (λ (k : ℕ). readAnswerFor k bytes) (sym is) ∙ (λ i. byFour (long i) (code i) (digits i) (lawful i))
 
-    pub not-zero : zerosRead ≡ false → readAnswer bytes ≡ NotZero
-    not-zero e = by-tests false digitsRead lawfulRead e refl refl
+    pub wrong-code : codeRead ≡ false → readAnswer bytes ≡ WrongRowCode
+    wrong-code e = by-tests false digitsRead lawfulRead e refl refl
 
-    pub bad-digit : zerosRead ≡ true → digitsRead ≡ false → readAnswer bytes ≡ BadDigit
+    pub bad-digit : codeRead ≡ true → digitsRead ≡ false → readAnswer bytes ≡ BadDigit
     bad-digit e f = by-tests true false lawfulRead e f refl
 
     -- and where the head passed, what its cells give
-    headed-by : (lawful : Bool) → lawfulRead ≡ lawful → zerosRead ≡ true → digitsRead ≡ true → (r : PageRead)
-        → r ≡ cond lawful (record { answer = Read; page = headed (headFrom (headIn rows bytes whole)) (cellsFrom (cellsIn rows bytes whole)) }) (refusedRead UnlawfulCells)
+    headed-by : (lawful : Bool) → lawfulRead ≡ lawful → codeRead ≡ true → digitsRead ≡ true → (r : PageRead)
+        → r ≡ cond lawful (record { answer = Read; page = headed headRead (filled cellsRead) }) (refusedRead UnlawfulCells)
         → Right r
     unfolding pageBeside
     headed-by true g e f r is =
@@ -84,5 +117,5 @@ module _ (bytes : List ℕ) where
         (ap (λ (k : PageRead). readPaper (k .answer)) is ∙ both .0, ap (λ (k : PageRead). k .page) is ∙ (sym page-in ∙ both .1))
     headed-by false g e f r is = refused-is UnlawfulCells (by-tests true true false e f g) refl r is
 
-    pub headed-is : zerosRead ≡ true → digitsRead ≡ true → (r : PageRead) → r ≡ headedRead (headFrom (headIn rows bytes whole)) (cellsFrom (cellsIn rows bytes whole)) → Right r
+    pub headed-is : codeRead ≡ true → digitsRead ≡ true → (r : PageRead) → r ≡ headedRead headRead (filled cellsRead) → Right r
     headed-is = headed-by lawfulRead refl

@@ -8,7 +8,7 @@ use lib.Seq.{drop-append-add, drop-drop, take-at}
 use Rattle.grid.specs.Grid.{cellCount, rows}
 use Rattle.packing.specs.Cells.{cellBytes}
 use Rattle.page.specs.Private.{cellsLength, cellsStored, headBytes, partsAnswer}
-use Rattle.page.specs.Records.{headLength, recordLength, recordOf}
+use Rattle.page.specs.Records.{headLength, recordLength, recordOf, rowCode}
 use Rattle.page.specs.Writing.{bufferAfter, writeAnswer, writePaper, written}
 use Rattle.page.specs.declared.Page.{Page}
 use Rattle.page.specs.declared.WriteAnswer.{WriteAnswer}
@@ -16,7 +16,7 @@ use Rattle.page.proofs.Forms.{length-head, record-split}
 
 -- the record is its head, and then its cells
 record-is : (page : Page) → recordOf page
-    ≡ headBytes (page .magazine) (page .header) (page .clean) ++ cellBytes cellCount cellsLength (page .cells .marks) (page .cells .characters)
+    ≡ headBytes (page .magazine) (page .header) (page .clean) (rowCode rows) ++ cellBytes cellCount cellsLength (page .cells .marks) (page .cells .characters)
 unfolding recordOf
 record-is page = record-split rows page
 
@@ -32,13 +32,13 @@ module _ (page : Page) (lent : List ℕ) where
   answered answer e = (ap writePaper (sym e), ap (λ (a : WriteAnswer). bufferAfter a page lent) (sym e))
 
   -- the steps of storing: the head, and then the cells
-  pub record-stored : (head first last : List ℕ) → head ≡ headBytes (page .magazine) (page .header) (page .clean)
+  pub record-stored : (head first last : List ℕ) → head ≡ headBytes (page .magazine) (page .header) (page .clean) (rowCode rows)
       → first ≡ head ++ drop (length head) lent
       → last ≡ cellsStored (page .cells .marks) (page .cells .characters) first
       → last ≡ recordOf page ++ drop recordLength lent
   record-stored head first last e f g =
       let cells = cellBytes cellCount cellsLength (page .cells .marks) (page .cells .characters) in
-      let size : length head ≡ headLength = ap length e ∙ length-head (page .magazine) (page .header) (page .clean) in
+      let size : length head ≡ headLength = ap length e ∙ length-head (page .magazine) (page .header) (page .clean) (rowCode rows) in
       let kept : drop recordLength first ≡ drop recordLength lent =
       ap (drop recordLength) f
       ∙ (ap (λ (k : ℕ). drop (k + cellsLength) (head ++ drop (length head) lent)) (sym size)

@@ -1,4 +1,5 @@
 pub mod Lawful
+pub mod OldForm
 pub mod Private
 pub mod Reading
 pub mod Records

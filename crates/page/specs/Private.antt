@@ -4,11 +4,11 @@ use mathlib.Core.List.{List, _++_}
 use Prim.Native.Nat.{ℕ, _*_, _/_}
 use lib.ListN.{getD, take, drop}
 use Rattle.laws.specs.Fields.{bitsOf, bytesOf, fieldsBits, fieldsOf}
-use Rattle.grid.specs.Grid.{cellCount, rows}
+use Rattle.grid.specs.Grid.{cellCount, columns, rows}
 use Rattle.packing.specs.Cells.{cellBytes, groupCells}
 use Rattle.packet.specs.declared.Header.{Header}
 use Rattle.page.specs.Lawful.{cellsLawful}
-use Rattle.page.specs.Records.{cleanFrom, headLength, headValues, headWidths, headerAt, magazineFrom, pageOf, recordLength, rowLength, zeroFrom}
+use Rattle.page.specs.Records.{cleanFrom, codeFrom, headLength, headValues, headWidths, headerAt, magazineFrom, pageOf, recordLength, rowLength}
 use Rattle.page.specs.Reading.{zeroPage}
 use Rattle.page.specs.Writing.{pageAnswer}
 use Rattle.page.specs.declared.Cells.{Cells}
@@ -19,7 +19,10 @@ use Rattle.page.specs.declared.WriteAnswer.{WriteAnswer}
 use Rattle.page.specs.declared.WriteAnswer.the-variants.{BadDigit}
 use Rattle.page.specs.declared.reading.Head.{Head}
 
--- the groups of cells that fill whole bytes
+-- the groups of cells that fill whole bytes: those of a row, and all
+abbrev pub rowGroups : ℕ
+rowGroups = columns / groupCells
+
 abbrev pub groupCount : ℕ
 groupCount = cellCount / groupCells
 
@@ -32,9 +35,9 @@ abbrev pub cellsStored : List ℕ → List ℕ → List ℕ → List ℕ
 cellsStored marks characters lent = take headLength lent ++ cellBytes cellCount cellsLength marks characters ++ drop recordLength lent
 
 -- the bytes before the cells
-unfoldable pub headBytes : ℕ → Header → Bool → List ℕ
+unfoldable pub headBytes : ℕ → Header → Bool → ℕ → List ℕ
 unfolding bytesOf fieldsBits headValues
-headBytes magazine header clean = bytesOf headLength (fieldsBits headWidths (headValues magazine header clean))
+headBytes magazine header clean code = bytesOf headLength (fieldsBits headWidths (headValues magazine header clean code))
 
 -- an answer of a page whose digits are lawful, and 22 of any other
 abbrev pub byDigits : Bool → WriteAnswer → WriteAnswer
@@ -52,8 +55,8 @@ headFields bytes = fieldsOf headWidths (bitsOf bytes)
 
 -- what they are
 unfoldable pub headFrom : List ℕ → Head
-unfolding magazineFrom headerAt cleanFrom zeroFrom
-headFrom values = record { magazine = magazineFrom (getD values 0 0); header = headerAt values; clean = cleanFrom values; zero = zeroFrom values }
+unfolding magazineFrom headerAt cleanFrom codeFrom
+headFrom values = record { magazine = magazineFrom (getD values 0 0); header = headerAt values; clean = cleanFrom values; code = codeFrom values }
 
 -- a refusal and what stands beside it, and the page of a head and its cells, or 23
 abbrev pub refusedRead : ReadAnswer → PageRead

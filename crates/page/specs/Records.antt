@@ -1,6 +1,6 @@
--- Document 01, "The page record": bit-packed, most significant first: magazine 3 (0 for 8), page tens 4, units 4, hours tens 2, units 4, minutes
--- tens 3, units 4, C4 to C14 in order 11, clean 1, zero 4; then 960 cells row by row, mark 2 and character 7. In all 1,085 bytes. The form is said for any
--- number of rows; a record has the grid's.
+-- Document 01, "The page record", with the row code of document 02, request 5: bit-packed, most significant first: magazine 3 (0 for 8), page tens 4, units 4,
+-- hours tens 2, units 4, minutes tens 3, units 4, C4 to C14 in order 11, clean 1, row code 4; then the cells row by row, mark 2 and character 7. The form is said
+-- for any number of rows: the old form has 24, in all 1,085 bytes; the new one has the grid's, in all 1,130.
 use mathlib.Core.Bool.{Bool, cond}
 use mathlib.Core.List.{List, [], _∷_, _++_}
 use Prim.Native.Nat.{ℕ, _+_, _*_, _%_}
@@ -29,6 +29,14 @@ recordLengthOf count = headLength + count * rowLength
 abbrev pub recordLength : ℕ
 recordLength = recordLengthOf rows
 
+-- the rows of the old form
+abbrev pub oldRows : ℕ
+oldRows = 24
+
+-- the row code: 0 is the old form, 1 the new
+abbrev pub rowCode : ℕ → ℕ
+rowCode count = cond (eqb count oldRows) 0 1
+
 -- ---- the widths
 
 abbrev pub magazineWidth : ℕ
@@ -41,12 +49,12 @@ headerWidths = 4 ∷ 4 ∷ 2 ∷ 4 ∷ 3 ∷ 4 ∷ 11 ∷ []
 abbrev pub cleanWidth : ℕ
 cleanWidth = 1
 
-abbrev pub zeroWidth : ℕ
-zeroWidth = 4
+abbrev pub codeWidth : ℕ
+codeWidth = 4
 
 -- the widths before the cells
 abbrev pub headWidths : List ℕ
-headWidths = magazineWidth ∷ headerWidths ++ (cleanWidth ∷ zeroWidth ∷ [])
+headWidths = magazineWidth ∷ headerWidths ++ (cleanWidth ∷ codeWidth ∷ [])
 
 unfoldable pub recordWidthsOf : ℕ → List ℕ
 unfolding cellWidths
@@ -69,19 +77,22 @@ zeroCells = cellsOf (replicate cellCount 0) (replicate cellCount 0)
 unfoldable pub magazineValue : ℕ → ℕ
 magazineValue magazine = magazine % 8
 
-unfoldable pub headValues : ℕ → Header → Bool → List ℕ
+unfoldable pub headValues : ℕ → Header → Bool → ℕ → List ℕ
 unfolding magazineValue headerValues
-headValues magazine header clean = magazineValue magazine ∷ headerValues header ++ (cond clean 1 0 ∷ 0 ∷ [])
+headValues magazine header clean code = magazineValue magazine ∷ headerValues header ++ (cond clean 1 0 ∷ code ∷ [])
 
-unfoldable pub valuesOf : Page → List ℕ
+-- in a record of so many rows
+unfoldable pub valuesOf : ℕ → Page → List ℕ
 unfolding headValues cellValues
-valuesOf page = headValues (page .magazine) (page .header) (page .clean) ++ cellValues (page .cells .marks) (page .cells .characters)
+valuesOf count page =
+    headValues (page .magazine) (page .header) (page .clean) (rowCode count) ++ cellValues (page .cells .marks) (page .cells .characters)
 
 -- the record of a page of so many rows
 unfoldable pub recordFor : ℕ → Page → List ℕ
 unfolding bytesOf fieldsBits recordWidthsOf valuesOf
-recordFor count page = bytesOf (recordLengthOf count) (fieldsBits (recordWidthsOf count) (valuesOf page))
+recordFor count page = bytesOf (recordLengthOf count) (fieldsBits (recordWidthsOf count) (valuesOf count page))
 
+-- a page's record, in the new form
 unfoldable pub recordOf : Page → List ℕ
 unfolding recordFor
 recordOf page = recordFor rows page
@@ -113,9 +124,8 @@ headerAt values =
 unfoldable pub cleanFrom : List ℕ → Bool
 cleanFrom values = eqb (getD values 8 0) 1
 
--- the four zero bits
-unfoldable pub zeroFrom : List ℕ → ℕ
-zeroFrom values = getD values 9 0
+unfoldable pub codeFrom : List ℕ → ℕ
+codeFrom values = getD values 9 0
 
 unfoldable pub cellsFrom : List ℕ → Cells
 unfolding marksFrom charactersFrom

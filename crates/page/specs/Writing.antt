@@ -1,4 +1,5 @@
--- Document 01, "Numbers of refusal", the record writer: 12, 24, 22, 23, in that order. A refusal writes nothing; bytes of a lent buffer past 1,085 stay.
+-- Document 01, "Numbers of refusal", the record writer: 12, 24, 22, 23, in that order. A refusal writes nothing; bytes of a lent buffer past the record, 1,130 by document
+-- 02, request 5, stay.
 use mathlib.Core.Bool.{cond}
 use mathlib.Core.List.{List, [], _++_}
 use Prim.Native.Nat.{ℕ}

@@ -1,4 +1,4 @@
-// The page record: a page of 24 rows of 40 cells, packed into 1,085 bytes and read back.
+// The page record: a page packed into the bytes of its form, and read back. The old form, of records from before row 24 was shown, is only read.
 mod lawful;
 mod parts;
 mod reading;
@@ -16,9 +16,19 @@ pub use writing::write_record;
 // Bytes of a record: those before its cells, and those of its rows.
 pub(crate) const HEAD_LENGTH: usize = 5;
 
-const ROW_LENGTH: usize = 45;
+pub(crate) const ROW_LENGTH: usize = 45;
 
 pub const RECORD_LENGTH: usize = HEAD_LENGTH + ROWS * ROW_LENGTH;
+
+// The old form had so many rows.
+pub(crate) const OLD_ROWS: usize = 24;
+
+pub(crate) const OLD_LENGTH: usize = HEAD_LENGTH + OLD_ROWS * ROW_LENGTH;
+
+// The row codes: the old form's, and that of the form that is written.
+pub(crate) const OLD_CODE: u8 = 0;
+
+pub(crate) const ROW_CODE: u8 = 1;
 
 // What a cell holds where nothing was received.
 pub const SPACE: u8 = 32;
@@ -70,7 +80,7 @@ pub enum WriteAnswer {
 pub enum ReadAnswer {
     Read,
     WrongLength,
-    NotZero,
+    WrongRowCode,
     BadDigit,
     UnlawfulCells,
 }

@@ -1,35 +1,46 @@
 // A record read as its page.
 ghost use mathlib.Core.Path.{_≡_};
-ghost use Prim.Native.Nat.{_<_};
+ghost use Prim.Native.Nat.{_*_, _<_, _≤_};
 ghost use lib.ListN.{length, drop};
 ghost use Rattle.laws.specs.Fields.{digits, fieldsOf};
-ghost use Rattle.grid.specs.Grid.{cellCount};
+ghost use Rattle.grid.specs.Grid.{columns, rows};
 ghost use Rattle.packing.specs.Cells.{cellFields};
 ghost use Rattle.page.specs.Private.{headFrom, headedRead, refusedRead};
-ghost use Rattle.page.specs.Reading.{pageRead, readAnswer, readPaper};
-ghost use Rattle.page.specs.Records.{cellsFrom, headLength, headWidths, magazineFrom, recordLength};
+ghost use Rattle.page.specs.Reading.{filled, pageRead, readAnswer, readPaper, rowsIn};
+ghost use Rattle.page.specs.Records.{cellsFrom, headLength, headWidths, magazineFrom, recordLengthOf, rowCode};
 use crate::Cells;
 use crate::CellsCheck;
 use crate::HEAD_LENGTH;
+use crate::NEVER;
+use crate::OLD_CODE;
+use crate::OLD_LENGTH;
+use crate::OLD_ROWS;
 use crate::Page;
 use crate::PageRead;
-use crate::RECORD_LENGTH;
+use crate::ROW_CODE;
+use crate::ROW_LENGTH;
 use crate::ReadAnswer;
+use crate::SPACE;
 use crate::ZERO_CELLS;
 use crate::lawful;
 use crate::parts;
 use grid::CELLS;
+use grid::COLUMNS;
+use grid::ROWS;
 use packet::Header;
 use packet::ZERO_HEADER;
 use packing::GROUP_BYTES;
 use packing::GROUP_CELLS;
+
+// Eight cells are nine bytes; so many such groups are a row.
+const ROW_GROUPS: usize = COLUMNS / GROUP_CELLS;
 
 // What a record's first five bytes hold, before its cells.
 struct Head {
     magazine: u8,
     header: Header,
     clean: bool,
-    zero: u8,
+    code: u8,
 }
 
 // The magazine of a record's first three bits: 0 is 8.
@@ -58,19 +69,20 @@ fn head_in(word: u64) -> Head
         magazine,
         header,
         clean: (word >> 28) % 2 == 1,
-        zero: ((word >> 24) % 16) as u8,
+        code: ((word >> 24) % 16) as u8,
     }
 }
 
-// The cells of a record, lawful or not, nine bytes at a time.
-fn cells_in(record: &[u8]) -> Cells
-    requires { ⌜ length (now «record») ≡ recordLength ⌝ }
-    ensures { λ r. ⌜ r ≡ cellsFrom (cellFields cellCount (drop headLength (now («record» .entry)))) ⌝ }
+// The cells of a record of so many rows, lawful or not, nine bytes at a time. Where the grid has more rows, nothing was received in them.
+fn cells_in(record: &[u8], count: usize) -> Cells
+    requires { ⌜ (length (now «record») ≡ recordLengthOf count) × (count ≤ rows) ⌝ }
+    ensures { λ r. ⌜ r ≡ filled (cellsFrom (cellFields (count * columns) (drop headLength (now («record» .entry))))) ⌝ }
 {
-    let mut characters = [0u8; CELLS];
-    let mut marks = [0u8; CELLS];
+    let mut characters = [SPACE; CELLS];
+    let mut marks = [NEVER; CELLS];
+    let groups = count * ROW_GROUPS;
     let mut group = 0;
-    while group < CELLS / GROUP_CELLS {
+    while group < groups {
         let place = HEAD_LENGTH + group * GROUP_BYTES;
         let eight = packing::unpacked(parts::eight_at(record, place), record[place + GROUP_CELLS]);
         let some_characters = eight.characters;
@@ -96,11 +108,11 @@ fn refused(answer: ReadAnswer) -> PageRead
 }
 
 // The page of a head that passed and of the cells after it, or 23.
-fn with_cells(head: Head, record: &[u8]) -> PageRead
-    requires { ⌜ length (now «record») ≡ recordLength ⌝ }
-    ensures { λ r. ⌜ r ≡ headedRead head (cellsFrom (cellFields cellCount (drop headLength (now («record» .entry))))) ⌝ }
+fn with_cells(head: Head, record: &[u8], count: usize) -> PageRead
+    requires { ⌜ (length (now «record») ≡ recordLengthOf count) × (count ≤ rows) ⌝ }
+    ensures { λ r. ⌜ r ≡ headedRead head (filled (cellsFrom (cellFields (count * columns) (drop headLength (now («record» .entry)))))) ⌝ }
 {
-    let cells = cells_in(record);
+    let cells = cells_in(record, count);
     let characters = cells.characters;
     let marks = cells.marks;
     let CellsCheck::Lawful = lawful::check_cells(&characters, &marks) else {
@@ -119,20 +131,43 @@ fn with_cells(head: Head, record: &[u8]) -> PageRead
     }
 }
 
-// The page of a record, or a refusal.
+// The rows of the form that a record's length shows.
+fn rows_in(record: &[u8]) -> usize
+    ensures { λ r. ⌜ r ≡ rowsIn (now («record» .entry)) ⌝ }
+{
+    if record.len() == OLD_LENGTH {
+        OLD_ROWS
+    } else {
+        ROWS
+    }
+}
+
+// The row code of a record of so many rows.
+fn row_code(count: usize) -> u8
+    ensures { λ r. ⌜ r ≡ rowCode count ⌝ }
+{
+    if count == OLD_ROWS {
+        OLD_CODE
+    } else {
+        ROW_CODE
+    }
+}
+
+// The page of a record of either form, or a refusal.
 pub fn read_record(record: &[u8]) -> PageRead
     ensures { λ r. ⌜ (readPaper (r .answer) ≡ readPaper (readAnswer (now («record» .entry)))) × (r .page ≡ pageRead (now («record» .entry))) ⌝ }
 {
-    if record.len() != RECORD_LENGTH {
+    let count = rows_in(record);
+    if record.len() != HEAD_LENGTH + count * ROW_LENGTH {
         return refused(ReadAnswer::WrongLength);
     }
     let head = head_in(packing::word_of(parts::eight_at(record, 0)));
-    if head.zero != 0 {
-        return refused(ReadAnswer::NotZero);
+    if head.code != row_code(count) {
+        return refused(ReadAnswer::WrongRowCode);
     }
     let header = head.header;
     if !lawful::digits_lawful(header) {
         return refused(ReadAnswer::BadDigit);
     }
-    with_cells(head, record)
+    with_cells(head, record, count)
 }

@@ -2,14 +2,15 @@
 ghost use mathlib.Core.Path.{_≡_};
 ghost use Prim.Native.Nat.{_≤_};
 ghost use lib.ListN.{length};
-ghost use Rattle.grid.specs.Grid.{cellCount};
+ghost use Rattle.grid.specs.Grid.{cellCount, rows};
 ghost use Rattle.page.specs.Private.{byDigits, cellsStored, headBytes, partsAnswer};
-ghost use Rattle.page.specs.Records.{cellsOf, pageOf, recordLength};
+ghost use Rattle.page.specs.Records.{cellsOf, pageOf, recordLength, rowCode};
 ghost use Rattle.page.specs.Writing.{writeAnswer, writePaper, written};
 use crate::CellsCheck;
 use crate::HEAD_LENGTH;
 use crate::Page;
 use crate::RECORD_LENGTH;
+use crate::ROW_CODE;
 use crate::WriteAnswer;
 use crate::lawful;
 use crate::parts;
@@ -20,14 +21,14 @@ use packing::GROUP_CELLS;
 
 // The bytes before the cells.
 fn head_bytes(magazine: u8, header: Header, clean: bool) -> [u8; HEAD_LENGTH]
-    ensures { λ r. ⌜ r ≡ headBytes magazine header clean ⌝ }
+    ensures { λ r. ⌜ r ≡ headBytes magazine header clean (rowCode rows) ⌝ }
 {
     [
         magazine % 8 * 32 + header.tens % 16 * 2 + header.units / 8 % 2,
         header.units % 8 * 32 + header.hours_tens % 4 * 8 + header.hours_units / 2 % 8,
         header.hours_units % 2 * 128 + header.minutes_tens % 8 * 16 + header.minutes_units % 16,
         (header.control / 8 % 256) as u8,
-        (header.control % 8) as u8 * 32 + clean as u8 * 16,
+        (header.control % 8) as u8 * 32 + clean as u8 * 16 + ROW_CODE,
     ]
 }
 
@@ -81,7 +82,7 @@ fn page_answer(
     }
 }
 
-// The record of a page of these parts into the first 1,085 bytes of what is lent, or nothing where it is refused. The cells are lent, so that a caller
+// The record of a page of these parts into the first `RECORD_LENGTH` bytes of what is lent, or nothing where it is refused. The cells are lent, so that a caller
 // who has them in two arrays writes them without a copy.
 pub fn write_parts(
     magazine: u8,
@@ -107,7 +108,7 @@ pub fn write_parts(
     WriteAnswer::Written
 }
 
-// A page's record into the first 1,085 bytes of what is lent, or nothing where it is refused.
+// A page's record into the first `RECORD_LENGTH` bytes of what is lent, or nothing where it is refused.
 pub fn write_record(page: Page, record: &mut [u8]) -> WriteAnswer
     ensures { λ r. ⌜ writePaper r ≡ writePaper (writeAnswer page (now («record» .entry))) ⌝ }
     ensures { λ _. ⌜ now («record» .exit) ≡ written page (now («record» .entry)) ⌝ }

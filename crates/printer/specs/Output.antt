@@ -1,4 +1,4 @@
--- Document 01, "Programs": the page printer takes a record and prints 24 lines, or only "refused" and the number.
+-- Document 01, "Programs": the page printer takes a record and prints its lines, 25 by document 02, request 5, or only "refused" and the number.
 use mathlib.Core.Bool.{cond}
 use mathlib.Core.List.{List, []}
 use mathlib.Core.Option.{Option, none, some}

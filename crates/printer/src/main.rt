@@ -1,4 +1,4 @@
-// The page printer: prints the page of the record on standard input as 24 lines of 40 characters, or why the record is refused. What is printed is
+// The page printer: prints the page of the record on standard input as 25 lines of 40 characters, or why the record is refused. What is printed is
 // what `output` says of the record.
 ghost use mathlib.Core.Path.{_≡_};
 ghost use lib.ListN.{length};
@@ -34,7 +34,7 @@ fn print_record(record: &[u8]) -> usize
             print(&text, record)
         }
         ReadAnswer::WrongLength => print(b"refused 20\n", record),
-        ReadAnswer::NotZero => print(b"refused 21\n", record),
+        ReadAnswer::WrongRowCode => print(b"refused 21\n", record),
         ReadAnswer::BadDigit => print(b"refused 22\n", record),
         ReadAnswer::UnlawfulCells => print(b"refused 23\n", record),
     }

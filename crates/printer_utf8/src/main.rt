@@ -1,4 +1,4 @@
-// The page printer in UTF-8: prints the page of the record on standard input as 24 lines of 40 letters, or why the record is refused; and says on standard error where
+// The page printer in UTF-8: prints the page of the record on standard input as 25 lines of 40 letters, or why the record is refused; and says on standard error where
 // English stands in. What is printed is what `output` says of the record, and what is said of its letters is `complaint`.
 ghost use mathlib.Core.Bool.{cond};
 ghost use mathlib.Core.List.{[]};
@@ -81,7 +81,7 @@ fn print_record(record: &[u8]) -> usize
     match answer {
         ReadAnswer::Read => print_page(page, record),
         ReadAnswer::WrongLength => print(b"refused 20\n", record),
-        ReadAnswer::NotZero => print(b"refused 21\n", record),
+        ReadAnswer::WrongRowCode => print(b"refused 21\n", record),
         ReadAnswer::BadDigit => print(b"refused 22\n", record),
         ReadAnswer::UnlawfulCells => print(b"refused 23\n", record),
     }

@@ -1,4 +1,4 @@
--- The codes of a page that is read from a record, or of the zeros beside a refused one: always 960 of 00 to 7F, so that no page of a record is refused by 25, and
+-- The codes of a page that is read from a record, or of the zeros beside a refused one: always the grid's count of 00 to 7F, so that no page of a record is refused by 25, and
 -- every cell of it can be printed.
 use mathlib.Core.Path.{_≡_, refl}
 use mathlib.Core.Bool.{Bool, true, false, cond, _&&_}
@@ -75,7 +75,7 @@ beside : (answer : ReadAnswer) (bytes : List ℕ) → readAnswer bytes ≡ answe
 unfolding pageBeside
 beside read.Read bytes e = (whole-read bytes e .0, characters-fit (pageIn bytes) (page-fits (pageIn bytes) (writes-read bytes e)))
 beside read.WrongLength bytes e = zeros
-beside read.NotZero bytes e = zeros
+beside read.WrongRowCode bytes e = zeros
 beside read.BadDigit bytes e = zeros
 beside read.UnlawfulCells bytes e = zeros
 
@@ -83,7 +83,7 @@ marks-beside : (answer : ReadAnswer) (bytes : List ℕ) → readAnswer bytes ≡
 unfolding pageBeside zeroPage
 marks-beside read.Read bytes e = whole-read bytes e .1
 marks-beside read.WrongLength bytes e = length-replicate {A = ℕ} cellCount 0
-marks-beside read.NotZero bytes e = length-replicate {A = ℕ} cellCount 0
+marks-beside read.WrongRowCode bytes e = length-replicate {A = ℕ} cellCount 0
 marks-beside read.BadDigit bytes e = length-replicate {A = ℕ} cellCount 0
 marks-beside read.UnlawfulCells bytes e = length-replicate {A = ℕ} cellCount 0
 

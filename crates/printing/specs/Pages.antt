@@ -1,4 +1,4 @@
--- Document 01, "Programs": the page printer takes a record and prints 24 lines. Nothing is trimmed, and every line ends in a line feed. By request 1 of document
+-- Document 01, "Programs": the page printer takes a record and prints its lines, 25 by request 5. Nothing is trimmed, and every line ends in a line feed. By request 1 of document
 -- 02 a line is a row of the page's cells; what is refused is what the display refuses, by 25.
 use mathlib.Core.Bool.{cond}
 use mathlib.Core.List.{List, [], _++_, map}

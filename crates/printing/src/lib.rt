@@ -1,4 +1,4 @@
-// A page as text: twenty-four lines of forty bytes, one for each cell, each line with a line feed; and in UTF-8, with national letters.
+// A page as text: a line of forty bytes for each row, one byte for each cell, each line with a line feed; and in UTF-8, with national letters.
 mod utf8;
 
 ghost use mathlib.Core.List.{[]};

@@ -33,7 +33,7 @@ module _ (receiver : Receiver) (packet lent : List ℕ) where
     pub late-goes-by : lastRow < row → taken receiver packet lent ≡ unclosed receiver 0 lent
     late-goes-by late = taken-another receiver packet lent (ap (seen ours) address ∙ sees-late ours magazine row late)
 
-  -- our row 1 to 23, with a page open
+  -- our row 1 to the last, with a page open
   abbrev pub stores-text : (row : ℕ) → OurText ours (addressOf packet) row → receiver .«open» ≡ true → Stores receiver packet lent (taken receiver packet lent)
   stores-text row text isOpen =
       record {

@@ -27,7 +27,7 @@ use Rattle.receiver.specs.declared.kinds.Seen.the-variants.{Another, Our
 
 -- ---- back: what was seen shows the address
 
--- row 1 to 23 of our magazine
+-- row 1 to the last of our magazine
 pub record OurText (ours : ℕ) (a : Address) (row : ℕ) : Type 0 where
   pub from : a ≡ Whole ours row
   pub first : 1 ≤ row
@@ -37,11 +37,11 @@ pub record OurText (ours : ℕ) (a : Address) (row : ℕ) : Type 0 where
 pub data Anothers (ours : ℕ) (a : Address) : Type 0 where
   -- another magazine
   other-magazine : (magazine row : ℕ) → a ≡ Whole magazine row → (magazine ≡ ours → ⊥) → Anothers ours a
-  -- row 24 to 31
+  -- a row past the last
   late-row : (magazine row : ℕ) → a ≡ Whole magazine row → lastRow < row → Anothers ours a
   -- a first message good and of another magazine
   other-first : (magazine weight1 : ℕ) → a ≡ First magazine weight1 → (magazine ≡ ours → ⊥) → Anothers ours a
-  -- a second message of 12 or more
+  -- a second message both of whose rows are such
   harmless-second : (second : ℕ) → a ≡ Second second → firstHarmless ≤ second → Anothers ours a
   -- no packet of 42 bytes
   no-packet : a ≡ WrongLength → Anothers ours a

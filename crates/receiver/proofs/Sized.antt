@@ -1,4 +1,4 @@
--- The cells of a new receiver are 960, and every line keeps them so many.
+-- The cells of a new receiver are the grid's, and every line keeps them so many.
 use mathlib.Core.Path.{_≡_, refl, _∙_}
 use mathlib.Core.List.{List}
 use Prim.Native.Nat.{ℕ}

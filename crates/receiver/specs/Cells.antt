@@ -1,4 +1,4 @@
--- Document 01, "The receiver": 960 characters, each with a mark, 0 never, 1 older, 2 fresh. Storing, clearing and ageing.
+-- Document 01, "The receiver", with document 02, request 5: 1,000 characters, each with a mark, 0 never, 1 older, 2 fresh. Storing, clearing and ageing.
 use mathlib.Core.Bool.{Bool, true, false, cond}
 use mathlib.Core.List.{List, [], _∷_, map}
 use mathlib.Core.Option.{Option, none, some}

@@ -1,4 +1,5 @@
--- Document 01, "The receiver", the table of kinds: what the address shows of a line, and what is to be done with it. "Ours" is the selected magazine.
+-- Document 01, "The receiver", the table of kinds, with the row limit of document 02, request 5: what the address shows of a line, and what is to be done with it.
+-- "Ours" is the selected magazine.
 use mathlib.Core.Bool.{Bool, true, cond}
 use mathlib.Core.List.{List}
 use Prim.Native.Nat.{ℕ, _+_, _/_}
@@ -20,7 +21,7 @@ use Rattle.receiver.specs.declared.kinds.Seen.the-variants.{Another, Our
 
 -- ---- what the address shows, by our magazine and the address alone
 
--- the least second message, of row weights 2 to 16, that shows a row past the last one
+-- the least second message, of row weights 2 to 16, both of whose rows lie past the last one
 abbrev pub firstHarmless : ℕ
 firstHarmless = lastRow / 2 + 1
 
@@ -33,7 +34,7 @@ unfoldable pub seenWhole : ℕ → ℕ → ℕ → Seen
 unfolding seenOurs
 seenWhole ours magazine row = cond (eqb magazine ours) (seenOurs row) Another
 
--- a first message good and of another magazine, or a second message of 12 or more, is another's. The line could have been row 0 where no good message
+-- a first message good and of another magazine, or a second message of 13 or more, is another's. The line could have been row 0 where no good message
 -- shows a row bit set
 unfoldable pub seen : ℕ → Address → Seen
 unfolding seenWhole
@@ -52,7 +53,7 @@ headerEffect selection (header.Good found) = cond (matches selection found) (Ope
 headerEffect selection header.Spoiled = Close 5
 headerEffect selection header.WrongLength = Nothing
 
--- kind 0: another magazine; row 24 to 31, where known; our row 1 to 23 with none open. Kind 1: our row 1 to 23, page open. Kind 4: an address message
+-- kind 0: another magazine; row 25 to 31, where known; our row 1 to 24 with none open. Kind 1: our row 1 to 24, page open. Kind 4: an address message
 -- refused, may be ours
 unfoldable pub effectOf : Selection → Bool → Seen → HeaderRead → Effect
 unfolding headerEffect

@@ -163,7 +163,7 @@ fn is_missing(row: u8, count: u8) -> bool
     (count as usize) < COLUMNS - first_column(row)
 }
 
-// Our row 1 to 23 with a page open: kind 1.
+// Our row below row 0 that carries characters, with a page open: kind 1.
 fn text_line(
     standing: Standing,
     row: u8,

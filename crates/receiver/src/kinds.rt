@@ -20,7 +20,7 @@ use packet::HeaderRead;
 pub(crate) enum Seen {
     // Another magazine's, or a row past the last.
     Another,
-    // Our row 1 to 23.
+    // Our row 1 to the last that carries characters.
     OurRow(u8),
     // Our row 0.
     OurHeader,
@@ -41,7 +41,7 @@ pub(crate) enum Effect {
     Doubt(bool),
 }
 
-// The least second address message that shows a row past the last one.
+// The least second address message both of whose rows lie past the last one.
 const FIRST_HARMLESS: u8 = LAST_ROW / 2 + 1;
 
 // A row of our magazine.

@@ -17,7 +17,7 @@ fn put_read(answer: ReadAnswer) {
     match answer {
         ReadAnswer::Read => cases::put_byte(0),
         ReadAnswer::WrongLength => cases::put_byte(20),
-        ReadAnswer::NotZero => cases::put_byte(21),
+        ReadAnswer::WrongRowCode => cases::put_byte(21),
         ReadAnswer::BadDigit => cases::put_byte(22),
         ReadAnswer::UnlawfulCells => cases::put_byte(23),
     }

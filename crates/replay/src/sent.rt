@@ -20,7 +20,7 @@ fn sent_bytes(sent: Sent) -> [u8; 2] {
     match sent {
         Sent::Lines(count) => [0, (count % 256) as u8],
         Sent::WrongLength => [20, 0],
-        Sent::NotZero => [21, 0],
+        Sent::WrongRowCode => [21, 0],
         Sent::BadDigit => [22, 0],
         Sent::UnlawfulCells => [23, 0],
         Sent::ShortRoom => [30, 0],

@@ -1,4 +1,4 @@
--- What is known of a page that the reader takes: its magazine is 1 to 8, its header's parts and its characters fit their bits, and it has 960 characters.
+-- What is known of a page that the reader takes: its magazine is 1 to 8, its header's parts and its characters fit their bits, and it has the grid's characters.
 use mathlib.Core.Path.{_≡_, subst, sym}
 use mathlib.Core.Bool.{true}
 use mathlib.Core.List.{List}

@@ -47,7 +47,7 @@ pub record ByTheRules (page : Page) (wanted : List Bool) : Type 0 where
   pub order : map sentRow (linesOf page wanted) ≡ 0 ∷ chosenRows wanted
   pub rising : (k : ℕ) → suc k < length (chosenRows wanted) → getD (chosenRows wanted) k 0 < getD (chosenRows wanted) (suc k) 0
 
--- a yes or no for each row 1 to 23
+-- a yes or no for each row 1 to 24
 abbrev pub ForEachRow : List Bool → Type 0
 ForEachRow wanted = length wanted ≡ lastRow
 

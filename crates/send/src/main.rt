@@ -55,7 +55,7 @@ fn send(record: &[u8], wanted: [bool; CHOICES]) -> usize
             print(&room[..count * LINE_LENGTH], &closing, record, wanted)
         }
         Sent::WrongLength => refuse(b"refused 20\n", record, wanted),
-        Sent::NotZero => refuse(b"refused 21\n", record, wanted),
+        Sent::WrongRowCode => refuse(b"refused 21\n", record, wanted),
         Sent::BadDigit => refuse(b"refused 22\n", record, wanted),
         Sent::UnlawfulCells => refuse(b"refused 23\n", record, wanted),
         Sent::ShortRoom => refuse(b"refused 30\n", record, wanted),
@@ -86,7 +86,7 @@ fn main() {
     match answer {
         ChoiceAnswer::Rows => send_input(wanted),
         ChoiceAnswer::NoRows => console::complain(
-            b"not rows: give some of 1 to 23, as 1-5,20, or nothing for all\n",
+            b"not rows: give some of 1 to 24, as 1-5,20, or nothing for all\n",
         ),
     }
 }

@@ -18,7 +18,7 @@ use Rattle.page.specs.declared.ReadAnswer.the-variants as read
 use Rattle.page.specs.declared.ReadAnswer.the-variants.{Read}
 use Rattle.sending.specs.Sending.{bytesNeeded, endToEnd, lineCount, linesOf, roomAfter, sendAnswer, sentAfter, sentInto}
 use Rattle.sending.specs.declared.Sent.{Sent}
-use Rattle.sending.specs.declared.Sent.the-variants.{Lines, WrongLength, NotZero, BadDigit, UnlawfulCells, ShortRoom}
+use Rattle.sending.specs.declared.Sent.the-variants.{Lines, WrongLength, WrongRowCode, BadDigit, UnlawfulCells, ShortRoom}
 use Rattle.sending.proofs.Lines.{lines-count, lines-length}
 use Rattle.sending.proofs.Parts.{read-whole}
 
@@ -90,7 +90,7 @@ pub record Counted (answer : ReadAnswer) (wanted : List Bool) (room : List ℕ) 
 abbrev isCount : Sent → ℕ
 isCount (Lines count) = 1
 isCount WrongLength = 0
-isCount NotZero = 0
+isCount WrongRowCode = 0
 isCount BadDigit = 0
 isCount UnlawfulCells = 0
 isCount ShortRoom = 0
@@ -98,7 +98,7 @@ isCount ShortRoom = 0
 abbrev countIn : Sent → ℕ
 countIn (Lines count) = count
 countIn WrongLength = 0
-countIn NotZero = 0
+countIn WrongRowCode = 0
 countIn BadDigit = 0
 countIn UnlawfulCells = 0
 countIn ShortRoom = 0
@@ -112,7 +112,7 @@ counted-by : (answer : ReadAnswer) (wanted : List Bool) (room : List ℕ) (count
 unfolding sentAfter
 counted-by read.Read wanted room count same = counted-if (leb (bytesNeeded wanted) (length room)) wanted room count refl same
 counted-by read.WrongLength wanted room count same = absurd (never (ap isCount same))
-counted-by read.NotZero wanted room count same = absurd (never (ap isCount same))
+counted-by read.WrongRowCode wanted room count same = absurd (never (ap isCount same))
 counted-by read.BadDigit wanted room count same = absurd (never (ap isCount same))
 counted-by read.UnlawfulCells wanted room count same = absurd (never (ap isCount same))
 

@@ -11,7 +11,7 @@ use Rattle.laws.specs.Unique.{Unique}
 use Rattle.laws.proofs.Inverse.{told-apart}
 use Rattle.sending.specs.Sending.{sentPaper}
 use Rattle.sending.specs.declared.Sent.{Sent}
-use Rattle.sending.specs.declared.Sent.the-variants.{Lines, WrongLength, NotZero, BadDigit, UnlawfulCells, ShortRoom}
+use Rattle.sending.specs.declared.Sent.the-variants.{Lines, WrongLength, WrongRowCode, BadDigit, UnlawfulCells, ShortRoom}
 use Rattle.sending.proofs.closing_line as closing-line
 use Rattle.sending.proofs.closing_line.Reads as closing-line-reads
 use Rattle.sending.proofs.send_page as send-page
@@ -22,13 +22,13 @@ abbrev toSent : Option ℕ → List ℕ → Sent
 toSent none values = ShortRoom
 toSent (some n) values =
     cond (eqb n 0) (Lines (getD values 0 0))
-    (cond (eqb n 20) WrongLength (cond (eqb n 21) NotZero (cond (eqb n 22) BadDigit (cond (eqb n 23) UnlawfulCells ShortRoom))))
+    (cond (eqb n 20) WrongLength (cond (eqb n 21) WrongRowCode (cond (eqb n 22) BadDigit (cond (eqb n 23) UnlawfulCells ShortRoom))))
 
 sent-back : (s : Sent) → toSent (sentPaper s .number) (sentPaper s .values) ≡ s
 unfolding sentPaper
 sent-back (Lines count) = refl
 sent-back WrongLength = refl
-sent-back NotZero = refl
+sent-back WrongRowCode = refl
 sent-back BadDigit = refl
 sent-back UnlawfulCells = refl
 sent-back ShortRoom = refl

@@ -1,4 +1,4 @@
--- Document 02, request 2: from a page record and a yes or no for each row 1 to 23, the data-lines of one transmission, header first with C4 set, rows
+-- Document 02, request 2, with request 5: from a page record and a yes or no for each row 1 to 24, the data-lines of one transmission, header first with C4 set, rows
 -- rising. Room past the lines stays. Refusals: 20 to 23 in their order, then 30, lent room shorter than 45 bytes for each line.
 use mathlib.Core.Bool.{Bool, true, false, cond}
 use mathlib.Core.List.{List, [], _∷_, _++_, map}
@@ -15,7 +15,7 @@ use Rattle.page.specs.declared.Page.{Page}
 use Rattle.page.specs.declared.ReadAnswer.{ReadAnswer}
 use Rattle.page.specs.declared.ReadAnswer.the-variants as read
 use Rattle.sending.specs.declared.Sent.{Sent}
-use Rattle.sending.specs.declared.Sent.the-variants.{Lines, WrongLength, NotZero, BadDigit, UnlawfulCells, ShortRoom}
+use Rattle.sending.specs.declared.Sent.the-variants.{Lines, WrongLength, WrongRowCode, BadDigit, UnlawfulCells, ShortRoom}
 
 -- ---- the rows
 
@@ -84,7 +84,7 @@ unfoldable pub sentAfter : ReadAnswer → List Bool → List ℕ → Sent
 unfolding bytesNeeded lineCount
 sentAfter read.Read wanted room = cond (leb (bytesNeeded wanted) (length room)) (Lines (lineCount wanted)) ShortRoom
 sentAfter read.WrongLength wanted room = WrongLength
-sentAfter read.NotZero wanted room = NotZero
+sentAfter read.WrongRowCode wanted room = WrongRowCode
 sentAfter read.BadDigit wanted room = BadDigit
 sentAfter read.UnlawfulCells wanted room = UnlawfulCells
 
@@ -96,7 +96,7 @@ unfoldable pub sentPaper : Sent → Paper
 unfolding accepted refusedBy
 sentPaper (Lines count) = accepted (count ∷ [])
 sentPaper WrongLength = refusedBy 20 []
-sentPaper NotZero = refusedBy 21 []
+sentPaper WrongRowCode = refusedBy 21 []
 sentPaper BadDigit = refusedBy 22 []
 sentPaper UnlawfulCells = refusedBy 23 []
 sentPaper ShortRoom = refusedBy 30 []
@@ -108,7 +108,7 @@ unfoldable pub roomAfter : Sent → Page → List Bool → List ℕ → List ℕ
 unfolding endToEnd linesOf bytesNeeded
 roomAfter (Lines count) page wanted room = endToEnd (linesOf page wanted) ++ drop (bytesNeeded wanted) room
 roomAfter WrongLength page wanted room = room
-roomAfter NotZero page wanted room = room
+roomAfter WrongRowCode page wanted room = room
 roomAfter BadDigit page wanted room = room
 roomAfter UnlawfulCells page wanted room = room
 roomAfter ShortRoom page wanted room = room

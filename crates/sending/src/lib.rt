@@ -31,7 +31,7 @@ pub const LONGEST: usize = ROWS * LINE_LENGTH;
 pub enum Sent {
     Lines(usize),
     WrongLength,
-    NotZero,
+    WrongRowCode,
     BadDigit,
     UnlawfulCells,
     ShortRoom,
@@ -171,7 +171,7 @@ pub fn send_page(record: &[u8], wanted: [bool; CHOICES], room: &mut [u8]) -> Sen
     match answer {
         ReadAnswer::Read => send_parts(page.magazine, header, &characters, wanted, room),
         ReadAnswer::WrongLength => Sent::WrongLength,
-        ReadAnswer::NotZero => Sent::NotZero,
+        ReadAnswer::WrongRowCode => Sent::WrongRowCode,
         ReadAnswer::BadDigit => Sent::BadDigit,
         ReadAnswer::UnlawfulCells => Sent::UnlawfulCells,
     }

@@ -1,4 +1,4 @@
--- `display::zero_cells` meets its contract: the zero cell 960 times.
+-- `display::zero_cells` meets its contract: the zero cell for each cell of a page.
 use mathlib.Core.Path.{refl}
 use Rattle.display.specs.Pages.{zeroCells}
 use Rattle.display.proofs.zero_cells.Statement.{statement}

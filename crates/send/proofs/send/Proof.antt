@@ -10,7 +10,7 @@ use Rattle.packet.specs.Lines.{lineLength}
 use Rattle.page.specs.Reading.{pageRead}
 use Rattle.sending.specs.Sending.{sentPaper}
 use Rattle.sending.specs.declared.Sent.{Sent}
-use Rattle.sending.specs.declared.Sent.the-variants.{WrongLength, NotZero, BadDigit, UnlawfulCells, ShortRoom}
+use Rattle.sending.specs.declared.Sent.the-variants.{WrongLength, WrongRowCode, BadDigit, UnlawfulCells, ShortRoom}
 use Rattle.send.specs.Written.{complaint, complaintOf, output, outputOf, room}
 use Rattle.send.proofs.Parts.{lines-fit, output-is, refusal-is}
 use borrow.Author.Needs.{needs}
@@ -97,7 +97,7 @@ slice-aggregate-refuse-2 c = search needs
 
 refuse-requires-2 : tie.Need-refuse-requires-2
 unfolding complaintOf outputOf sentPaper
-refuse-requires-2 c κs = refused (c .before .before .before .before) NotZero (c .before .enum-told2 .given .1)
+refuse-requires-2 c κs = refused (c .before .before .before .before) WrongRowCode (c .before .enum-told2 .given .1)
 
 enum-told-3 : tie.Need-enum-told-3
 enum-told-3 c = search needs

@@ -3,7 +3,7 @@ use mathlib.Core.Path.{_≡_, sym, ap, _∙_}
 use Rattle.page.specs.Reading.{pageRead}
 use Rattle.page.specs.declared.Page.{Page}
 use Rattle.page.specs.declared.ReadAnswer.{ReadAnswer}
-use Rattle.page.specs.declared.ReadAnswer.the-variants.{Read, WrongLength, NotZero, BadDigit, UnlawfulCells}
+use Rattle.page.specs.declared.ReadAnswer.the-variants.{Read, WrongLength, WrongRowCode, BadDigit, UnlawfulCells}
 use Rattle.page.proofs.Papers.{read-is}
 use Rattle.sending.specs.Private.{partsSent}
 use Rattle.sending.specs.Sending.{roomAfter, sendAnswer, sentAfter, sentInto, sentPaper}
@@ -75,7 +75,7 @@ returns-2 c = refused (c .before .before .before .before .before .before) WrongL
 
 returns-3 : tie.Need-returns-3
 unfolding sentAfter roomAfter
-returns-3 c = refused (c .before .before .before .before .before .before) NotZero (c .enum-told3 .given .1)
+returns-3 c = refused (c .before .before .before .before .before .before) WrongRowCode (c .enum-told3 .given .1)
 
 returns-4 : tie.Need-returns-4
 unfolding sentAfter roomAfter

@@ -1,37 +1,42 @@
-use mathlib.Core.Path.{_≡_, refl, _∙_}
+use mathlib.Core.Path.{_≡_, refl, _∙_, ap}
 use mathlib.Core.List.{List}
-use Prim.Native.Nat.{ℕ, _*_, _-_, _≤_}
+use Prim.Native.Nat.{ℕ, _+_, _*_, _-_, _≤_}
 use native.Mathlib.Omega.{arith}
 use borrow.Author.Needs.{needs}
-use lib.ListN.{length, take, drop}
-use Rattle.laws.proofs.Runs.{over, over-all}
-use Rattle.grid.specs.Grid.{cellCount}
-use Rattle.packing.specs.Cells.{cellFields, charactersFrom, groupCells, marksFrom}
+use lib.ListN.{length, replicate, take, drop}
+use Rattle.laws.proofs.Runs.{over}
+use Rattle.grid.specs.Grid.{cellCount, rows}
+use Rattle.packing.specs.Cells.{cellFields, charactersFrom, groupBytes, groupCells, marksFrom}
 use Rattle.packing.specs.declared.EightCells.{EightCells}
-use Rattle.page.specs.Private.{groupCount}
-use Rattle.page.specs.Records.{cellsFrom, cellsOf, headLength, recordLength}
-use Rattle.page.proofs.Loading.{characters-read, eight-laid, length-all-characters, length-all-marks, marks-read}
+use Rattle.page.specs.Lawful.{never, space}
+use Rattle.page.specs.Private.{rowGroups}
+use Rattle.page.specs.Records.{headLength}
+use Rattle.page.proofs.Loading.{characters-read, eight-laid, laid-filled, length-all-characters, length-all-marks, marks-read}
 use Rattle.page.proofs.reading.cells_in.Statement.{statement}
 use Rattle.page.proofs.reading.cells_in.Tie as tie
 
--- what the cells will be
-abbrev allCharacters : List ℕ → List ℕ
-allCharacters «record» = charactersFrom (cellFields cellCount (drop headLength «record»))
+-- what the cells of so many groups will be
+abbrev allCharacters : ℕ → List ℕ → List ℕ
+allCharacters groups «record» = charactersFrom (cellFields (groups * groupCells) (drop headLength «record»))
 
-abbrev allMarks : List ℕ → List ℕ
-allMarks «record» = marksFrom (cellFields cellCount (drop headLength «record»))
+abbrev allMarks : ℕ → List ℕ → List ℕ
+allMarks groups «record» = marksFrom (cellFields (groups * groupCells) (drop headLength «record»))
 
 abbrev Inv-loop : tie.InvT-loop
-Inv-loop «record» characters₀ marks₀ group₀ characters marks group =
-    (group ≤ groupCount) × (cellCount ≡ length characters) × (cellCount ≡ length marks) × (length «record» ≡ recordLength)
-    × (characters ≡ over characters₀ (allCharacters «record») (group * groupCells))
-    × (marks ≡ over marks₀ (allMarks «record») (group * groupCells))
+Inv-loop «record» count characters₀ marks₀ groups₀ group₀ characters marks group =
+    (group ≤ groups₀) × (cellCount ≡ length characters) × (cellCount ≡ length marks) × (length «record» ≡ headLength + groups₀ * groupBytes)
+    × (groups₀ ≡ count * rowGroups) × (count ≤ rows)
+    × (characters ≡ over characters₀ (allCharacters groups₀ «record») (group * groupCells))
+    × (marks ≡ over marks₀ (allMarks groups₀ «record») (group * groupCells))
 
 abbrev μ-loop : tie.MeasureT-loop
-μ-loop «record» characters₀ marks₀ group₀ characters marks group = groupCount - group
+μ-loop «record» count characters₀ marks₀ groups₀ group₀ characters marks group = groups₀ - group
+
+mul-groups : tie.Need-mul-groups Inv-loop μ-loop
+mul-groups c = search needs
 
 loop-holds : tie.Need-loop-holds Inv-loop μ-loop
-loop-holds c = (search needs, search needs, search needs, search needs, refl, refl)
+loop-holds c = (search needs, search needs, search needs, search needs, refl, search needs, refl, refl)
 
 mul-place : tie.Need-mul-place Inv-loop μ-loop
 mul-place c = search needs
@@ -56,6 +61,9 @@ module _ (c : tie.After-unpacked Inv-loop μ-loop) where
   abbrev bytes : List ℕ
   bytes = c .before .before .before .before .before .before .args .«record» .now
 
+  abbrev groups : ℕ
+  groups = c .before .before .before .before .before .before .args .count * rowGroups
+
   abbrev here : ℕ
   here = c .before .before .before .before .loop .group
 
@@ -68,14 +76,14 @@ module _ (c : tie.After-unpacked Inv-loop μ-loop) where
   eight-marks : length (eight .marks) ≡ groupCells
   eight-marks = search needs
 
-  read-characters : eight .characters ≡ take groupCells (drop (here * groupCells) (allCharacters bytes))
+  read-characters : eight .characters ≡ take groupCells (drop (here * groupCells) (allCharacters groups bytes))
   read-characters =
-      characters-read groupCount headLength bytes (search needs) here (search needs) (c .before .before .eight-at .result) _ eight (c .before .before .eight-at .ensures) refl
+      characters-read groups headLength bytes (search needs) here (search needs) (c .before .before .eight-at .result) _ eight (c .before .before .eight-at .ensures) refl
       (c .unpacked .ensures)
 
-  read-marks : eight .marks ≡ take groupCells (drop (here * groupCells) (allMarks bytes))
+  read-marks : eight .marks ≡ take groupCells (drop (here * groupCells) (allMarks groups bytes))
   read-marks =
-      marks-read groupCount headLength bytes (search needs) here (search needs) (c .before .before .eight-at .result) _ eight (c .before .before .eight-at .ensures) refl
+      marks-read groups headLength bytes (search needs) here (search needs) (c .before .before .eight-at .result) _ eight (c .before .before .eight-at .ensures) refl
       (c .unpacked .ensures)
 
 slice-aggregate-store : tie.Need-slice-aggregate-store Inv-loop μ-loop
@@ -117,27 +125,29 @@ loop-again c =
     let read = c .before .before .before .before .before .before .before .before .before .before in
     let loop = read .before .before .before .before .loop in
     let record-long = loop .inv .3 in
-    let characters-long = length-all-characters groupCount headLength (bytes read) record-long in
-    let marks-long = length-all-marks groupCount headLength (bytes read) record-long in (
+    let characters-long = length-all-characters (groups read) headLength (bytes read) record-long in
+    let marks-long = length-all-marks (groups read) headLength (bytes read) record-long in (
       search needs,
       search needs,
       search needs,
       search needs,
-      eight-laid _ (allCharacters (bytes read)) (here read) (omega arith) (loop .characters) _ (eight read .characters) (eight-characters read) (read-characters read) (loop .inv .4)
+      search needs,
+      search needs,
+      eight-laid _ (allCharacters (groups read) (bytes read)) (here read) (omega arith) (loop .characters) _ (eight read .characters) (eight-characters read) (read-characters read) (loop .inv .6)
           (c .before .before .before .before .before .store .ensures),
-      eight-laid _ (allMarks (bytes read)) (here read) (omega arith) (loop .marks) _ (eight read .marks) (eight-marks read) (read-marks read) (loop .inv .5) (c .before .store2 .ensures),
+      eight-laid _ (allMarks (groups read) (bytes read)) (here read) (omega arith) (loop .marks) _ (eight read .marks) (eight-marks read) (read-marks read) (loop .inv .7) (c .before .store2 .ensures),
     )
 
 returns : tie.Need-returns Inv-loop μ-loop
-unfolding cellsFrom
 returns c =
-    let «record» = c .before .before .before .args .«record» .now in
+    let start = c .before .before .before in
+    let «record» = start .args .«record» .now in
+    let groups = start .args .count * rowGroups in
     let loop = c .before .loop in
-    let end : loop .group * groupCells ≡ cellCount = omega arith in
-    let characters-long = length-all-characters groupCount headLength «record» (loop .inv .3) in
-    let marks-long = length-all-marks groupCount headLength «record» (loop .inv .3) in
-    λ i. cellsOf ((loop .inv .4 ∙ over-all _ (allCharacters «record») (loop .group * groupCells) (omega arith) (omega arith)) i)
-    ((loop .inv .5 ∙ over-all _ (allMarks «record») (loop .group * groupCells) (omega arith) (omega arith)) i)
+    let end : loop .group ≡ groups = omega arith in
+    laid-filled (start .args .count) groups (loop .inv .4) «record» (loop .characters) (loop .marks)
+    (loop .inv .6 ∙ ap (λ (k : ℕ). over (replicate cellCount space) (allCharacters groups «record») (k * groupCells)) end)
+    (loop .inv .7 ∙ ap (λ (k : ℕ). over (replicate cellCount never) (allMarks groups «record») (k * groupCells)) end)
 
 pub cells-in-spec : {M : Type 1} → statement M
 cells-in-spec =
@@ -145,6 +155,7 @@ cells-in-spec =
     (tie.spec
     Inv-loop
     μ-loop
+    mul-groups
     loop-holds
     mul-place
     add-place

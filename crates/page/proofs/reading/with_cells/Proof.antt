@@ -2,20 +2,24 @@ use mathlib.Core.Path.{_≡_, _∙_, ap, sym}
 use mathlib.Core.Bool.{true}
 use mathlib.Core.List.{[], _∷_}
 use mathlib.Core.Logic.{⊎-elim}
+use Prim.Native.Nat.{_*_}
 use native.Mathlib.Omega.{arith}
 use denote.Enum.Declared.{tagOf}
 use lib.ListN.{drop}
 use types.Run.{OneOf}
-use Rattle.grid.specs.Grid.{cellCount, rows}
+use Rattle.grid.specs.Grid.{columns}
 use Rattle.packing.specs.Cells.{cellFields}
 use Rattle.page.specs.Lawful.{cellsChecked, cellsFit}
+use Rattle.page.specs.Reading.{filled}
 use Rattle.page.specs.Records.{cellsFrom, headLength}
 use Rattle.page.specs.declared.Cells.{Cells}
 use Rattle.page.specs.declared.CellsCheck.{CellsCheck}
 use Rattle.page.specs.declared.CellsCheck.the-variants.{Lawful}
 use Rattle.page.specs.declared.ReadAnswer.the-variants.{Read}
 use Rattle.page.proofs.CellsCheck.{the-type}
+use Rattle.page.proofs.AnyRows.{whole-cells}
 use Rattle.page.proofs.Checks.{lawful-shown, unlawful-shown}
+use Rattle.page.proofs.Filled.{filled-fits}
 use Rattle.page.proofs.Papers.{check-is}
 use Rattle.page.proofs.Forms.{cells-fit, headed, length-back}
 use borrow.Author.Needs.{needs}
@@ -40,7 +44,7 @@ module _ (c : tie.After-check-cells) where
   start = c .before .before .before .before .before .before .before
 
   cells-read : Cells
-  cells-read = cellsFrom (cellFields cellCount (drop headLength (start .args .«record» .now)))
+  cells-read = filled (cellsFrom (cellFields (start .args .count * columns) (drop headLength (start .args .«record» .now))))
 
   cells-are : c .before .before .before .before .before .cells-in .result ≡ cells-read
   unfolding cells-read
@@ -51,7 +55,11 @@ module _ (c : tie.After-check-cells) where
 
   fit : cellsFit cells-read ≡ true
   unfolding cells-read
-  fit = cells-fit rows (drop headLength (start .args .«record» .now)) (length-back rows (start .args .«record» .now) (start .pre))
+  fit =
+      let n = start .args .count in
+      let bytes = start .args .«record» .now in
+      filled-fits n (start .pre .1) (cellsFrom (cellFields (n * columns) (drop headLength bytes))) (whole-cells n (drop headLength bytes))
+      (cells-fit n (drop headLength bytes) (length-back n bytes (start .pre .0)))
 
 -- any other check
 not-lawful : (check : CellsCheck) → OneOf (1 ∷ 2 ∷ []) (tagOf the-type check) → check ≡ Lawful → ⊥

@@ -62,6 +62,11 @@ add-t35 c =
     let args = c .before .before .before .before .before .before .before .before .before .before .args in
     record { fits = omega (arith, bit-below (args .clean)) }
 
+add-t36 : tie.Need-add-t36
+add-t36 c =
+    let args = c .before .before .before .before .before .before .before .before .before .before .args in
+    record { fits = omega (arith, bit-below (args .clean)) }
+
 returns : tie.Need-returns
 returns c =
     let args = c .before .before .before .before .before .before .before .before .before .before .args in
@@ -89,4 +94,5 @@ head-bytes-spec =
     cast-t33
     mul-t34
     add-t35
+    add-t36
     returns)
