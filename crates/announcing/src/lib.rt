@@ -1,4 +1,6 @@
 // What is said over lines: each page that closes, once and in order, and of a clean page what was sent this time and nothing else.
+#![tactic(auto)]
+
 ghost use Rattle.std.specs.Prelude.{cond, [], ◌≡◌, ◌+◌, ◌*◌, ◌/◌, ◌≤◌, ◌<◌, min, length, take};
 ghost use Rattle.grid.specs.Grid.{cell_count, rows};
 ghost use Rattle.packet.specs.Lines.{line_length};

@@ -1,4 +1,6 @@
 // Which page an argument asks for: its number, "100", or with a time code, "100/1234".
+#![tactic(auto)]
+
 ghost use Rattle.std.specs.Prelude.{◌≡◌, length};
 ghost use Rattle.asking.specs.Asked.{asked, asked_for, digit_at, is_number, is_time, selection_asked, time_asked, value_at};
 

@@ -1,6 +1,8 @@
 // What the gate's programs that answer cases share: cases come on standard input and answers go to standard output, as bytes; tests/model/FORMAT.md has the
 // form of both. What lies past the end of a case is read as zeros and as empty parts, so that no program has a condition on its cases. No contract can say what
 // is read or written, so the functions that do that promise nothing.
+#![tactic(auto)]
+
 ghost use Rattle.std.specs.Prelude.{◌≡◌, ◌+◌, ◌*◌, drop, get_or, take};
 
 // The longest part of a case, by the two bytes of its length.

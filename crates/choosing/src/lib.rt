@@ -1,4 +1,6 @@
 // Which rows an argument asks for: "1-5,20".
+#![tactic(auto)]
+
 ghost use Rattle.std.specs.Prelude.{◌≡◌, ◌≤◌, length};
 ghost use Rattle.choosing.specs.Chosen.{covers, front, is_digit, is_span, names_rows, row_in, row_of, says_rows, span_of, wanted_rows};
 ghost use Rattle.choosing.specs.Private.{Joined, none_wanted};

@@ -1,5 +1,7 @@
 // The coding layer: turning a byte, the framing test, Hamming bytes and character bytes, each for all of the 256 values.
 // Bytes are those of document 01 after turning, except in `turned` itself and in `framing_passes`, which takes a framing code as it stands.
+#![tactic(auto)]
+
 ghost use Rattle.std.specs.Prelude.{◌≡◌, ◌%◌};
 ghost use Rattle.laws.specs.Digits.{weight};
 ghost use Rattle.laws.specs.Paper.{one_or_none};

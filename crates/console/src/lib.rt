@@ -1,5 +1,7 @@
 // Standard input, standard output and standard error, for all programs: the end of the input and a failed read are told apart, and what fails is said on
 // standard error. What is read or written is no part of a contract.
+#![tactic(auto)]
+
 ghost use Rattle.console.specs.Read.{Read, ReadBehind};
 ghost use Rattle.io.specs.Counts.{IsPrefixLen};
 

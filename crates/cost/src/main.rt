@@ -1,6 +1,8 @@
 // Does one piece of work on lines, or on pages printed, so many times, for its instructions to be counted (bench/count): between two counts start-up falls out. Standard input has the work's
 // letter and two parts, as a case has them: two bytes with the count, and what the work is done on. What each turn gives is mixed into a byte that is written at the
 // end, so that no turn can be left out.
+#![tactic(auto)]
+
 ghost use Rattle.std.specs.Prelude.{◌≡◌, ◌*◌, length};
 ghost use Rattle.packet.specs.Lines.{line_length};
 

@@ -1,6 +1,8 @@
 // Decodes Hamming bytes one after the other, for the instructions of one to be counted, as `cost` does of lines (bench/count). Standard input has the work's letter and one
 // part, as a case has it: the bytes. The first that is refused is the last, as in a header; so bytes are decoded one by one, and not many at once. What each gives is mixed
 // into a byte that is written at the end.
+#![tactic(auto)]
+
 use coding::{Decoded, Message};
 
 // Work h: the message of each byte.

@@ -1,4 +1,6 @@
 // Does one piece of work on fields, records, pages shown or pages sent so many times, for its instructions to be counted, as `cost` does of others (bench/count).
+#![tactic(auto)]
+
 use display::{Cell, Height, Symbol};
 use field::Found;
 use grid::CELLS;

@@ -1,4 +1,6 @@
 // Answers cases of bytes, data-lines, packets, data fields, pages of codes and letters by the library, for its answers to be held to those of others (tests/model/FORMAT.md).
+#![tactic(auto)]
+
 mod coded;
 mod lettered;
 mod sent;

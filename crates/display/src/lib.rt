@@ -1,4 +1,6 @@
 // Display cells: what each of a page's cells shows, worked out from the page's codes.
+#![tactic(auto)]
+
 mod doubling;
 mod state;
 

@@ -1,4 +1,6 @@
 // What is said on standard error when there are no more lines: how many there were and what became of them, and last how many bytes were mended.
+#![tactic(auto)]
+
 ghost use Rattle.std.specs.Prelude.{◌≡◌};
 ghost use Rattle.tally.specs.Tally.{share_text};
 

@@ -1,4 +1,6 @@
 // What README shows: the first character of page 100's row 10.
+#![tactic(auto)]
+
 use grid::COLUMNS;
 use page::{FRESH, RECORD_LENGTH};
 use receiver::{Answer, Closing, Played, Receiver, Selection, When};

@@ -1,5 +1,7 @@
 // A data field: the unit at a place, of any id, and the search for a teletext unit. Bytes are read as they stand, and places count from the
 // field's start, where the identifier stands.
+#![tactic(auto)]
+
 ghost use Rattle.std.specs.Prelude.{false, ◌≡◌, ◌+◌, ◌≤◌, ◌<◌, length};
 ghost use Rattle.field.specs.Field.{after_at, any_unit_paper, here, high, known, length_at, low, no_field, start, teletext_id, unit_answer, unit_at, wrong_length};
 ghost use Rattle.field.specs.Search.{found_paper, line_passes, offset_passes, searched, step};

@@ -1,4 +1,6 @@
 // The grid of a page. Rows and columns are said here and nowhere else: every other number of a page or of its record comes from them.
+#![tactic(auto)]
+
 pub const ROWS: usize = 25;
 
 pub const COLUMNS: usize = 40;

@@ -1,4 +1,6 @@
 // The line that says what closed: the page and its time, the word, and how many bytes were mended in its own lines.
+#![tactic(auto)]
+
 ghost use Rattle.std.specs.Prelude.{◌≡◌, ◌+◌, ◌≤◌, length};
 ghost use Rattle.texts.specs.Put.{Puts};
 ghost use Rattle.heading.specs.Line.{english_size, english_text, heading_text, line_held, line_size, line_text, word_size, word_text};

@@ -1,5 +1,7 @@
 // The receiver lent: the entry that takes the day's receiver where it lies and alters it there. It is thin: a line does to it what the by-value entry
 // `receiver::take_line` says.
+#![tactic(auto)]
+
 ghost use Rattle.receiver.specs.Entries.{Meets, line_entered};
 ghost use Rattle.lent.specs.Lent.{together};
 

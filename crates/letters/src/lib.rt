@@ -1,4 +1,6 @@
 // National letters: the letter of a code under a page's control bits, and the UTF-8 form of a letter.
+#![tactic(auto)]
+
 mod forms;
 mod sets;
 mod table;

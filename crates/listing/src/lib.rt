@@ -1,4 +1,6 @@
 // The lines of the unit lister: the text of what stands at a place of a data field, and the place at which the listing goes on.
+#![tactic(auto)]
+
 ghost use Rattle.std.specs.Prelude.{[], ◌∷◌, ◌++◌, ◌≡◌, ◌≤◌, length};
 ghost use Rattle.texts.specs.Decimal.{decimal};
 ghost use Rattle.field.specs.Field.{asked};

@@ -1,5 +1,7 @@
 // What a data-line holds: its packet, and the packet's address, header and characters. A packet is lent as it stands in the line; its bytes are turned
 // as they are read.
+#![tactic(auto)]
+
 mod writing;
 
 ghost use Rattle.std.specs.Prelude.{◌≡◌, ◌∷◌, [], length};

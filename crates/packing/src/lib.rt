@@ -1,5 +1,7 @@
 // Cells packed bit by bit: a mark in two bits and a character in seven, the most significant bit first. Eight cells fill nine whole bytes. They are worked
 // on eight at once, in words of 64 bits, the first cell or byte the most significant.
+#![tactic(auto)]
+
 ghost use Rattle.std.specs.Prelude.{◌≡◌, ◌*◌, ◌<◌, ◌^◌, replicate};
 ghost use mathlib.Core.List.{[], ◌∷◌, ◌++◌, map, zip_with};
 ghost use Rattle.laws.specs.Digits.{binary};

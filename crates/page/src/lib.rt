@@ -1,4 +1,6 @@
 // The page record: a page packed into the bytes of its form, and read back. The old form, of records from before row 24 was shown, is only read.
+#![tactic(auto)]
+
 mod lawful;
 mod parts;
 mod reading;

@@ -1,5 +1,7 @@
 // The page printer: prints the page of the record on standard input as 25 lines of 40 characters, or why the record is refused. What is printed is
 // what `output` says of the record.
+#![tactic(auto)]
+
 ghost use Rattle.std.specs.Prelude.{◌≡◌, length};
 ghost use Rattle.printer.specs.Output.{output};
 

@@ -1,5 +1,7 @@
 // The page printer in UTF-8: prints the page of the record on standard input as 25 lines of 40 letters, or why the record is refused; and says on standard error where
 // English stands in. What is printed is what `output` says of the record, and what is said of its letters is `complaint`.
+#![tactic(auto)]
+
 ghost use Rattle.std.specs.Prelude.{cond, [], ◌≡◌, length};
 ghost use Rattle.std.proofs.Math.Option.{some};
 ghost use Rattle.page.specs.Reading.{page_read};

@@ -1,4 +1,6 @@
 // A page as text: a line of forty bytes for each row, one byte for each cell, each line with a line feed; and in UTF-8, with national letters.
+#![tactic(auto)]
+
 mod utf8;
 
 ghost use Rattle.std.specs.Prelude.{[], ◌≡◌, length, replicate};

@@ -1,5 +1,7 @@
 // The receiving program: the page's number as its argument, a recording of data-lines on standard input. What is said of the pages that close goes to standard
 // output, as soon as the closing line has come; the counts at the end, complaints and hints go to standard error.
+#![tactic(auto)]
+
 ghost use Rattle.std.specs.Prelude.{◌≡◌, ◌+◌, ◌≤◌, ◌<◌, length, take, drop};
 ghost use Rattle.page.specs.Records.{record_length};
 ghost use Rattle.announcing.specs.Said.{said};

@@ -1,5 +1,7 @@
 // The receiver of one selected page, by value: a line or a packet goes in with the receiver and a lent record, and the receiver comes back. The lent
 // record is written only where a page closes.
+#![tactic(auto)]
+
 mod asking;
 mod cells;
 mod effects;

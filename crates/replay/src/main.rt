@@ -1,4 +1,6 @@
 // Answers cases of receivers, of page records and of pages sent by the library, for its answers to be held to those of others (tests/model/FORMAT.md).
+#![tactic(auto)]
+
 mod forms;
 mod pages;
 mod runs;

@@ -1,5 +1,7 @@
 // The sending program: a page's record on standard input, the rows that are wanted as its argument, "1-5,20", or none for all. It writes the data-lines of one
 // transmission, and then the line that ends the page, so that a receiver closes it.
+#![tactic(auto)]
+
 ghost use Rattle.std.specs.Prelude.{◌≡◌, [], ◌++◌, ◌≤◌, length};
 ghost use Rattle.packet.specs.Lines.{line_length};
 ghost use Rattle.send.specs.Written.{complaint, output, room};

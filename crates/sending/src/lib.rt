@@ -1,4 +1,6 @@
 // Sending a page: from its record, and a yes or no for each row, the data-lines of one transmission.
+#![tactic(auto)]
+
 ghost use Rattle.std.specs.Prelude.{◌≡◌, cond, true, ◌+◌, ◌*◌, ◌≤◌, ◌<◌, length};
 ghost use Rattle.grid.specs.Grid.{cell_count, rows};
 ghost use Rattle.packet.specs.Lines.{line_length};

@@ -1,4 +1,6 @@
 // What is said of mended bytes: how many there were in a page, and over all lines how many, in how many of the lines.
+#![tactic(auto)]
+
 ghost use Rattle.std.specs.Prelude.{◌≡◌, ◌+◌, ◌≤◌, length};
 ghost use Rattle.texts.specs.Decimal.{decimal, most_digits};
 ghost use Rattle.texts.specs.Put.{Puts};

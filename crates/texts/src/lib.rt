@@ -1,4 +1,6 @@
 // Texts: a number in decimal, and texts put into a room, one behind the other.
+#![tactic(auto)]
+
 ghost use Rattle.std.specs.Prelude.{[], ◌≡◌, ◌+◌, ◌≤◌, ◌<◌, length, set};
 ghost use Rattle.texts.specs.Decimal.{decimal, digit, digit_text, digits_held, most_digits};
 ghost use Rattle.texts.specs.Put.{Puts, PutsWhole};

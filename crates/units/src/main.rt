@@ -1,5 +1,7 @@
 // The unit lister: lists the units of the data field on standard input, one to a line, and how the field ends. What is printed is what
 // `listed` says of the field (crate `listing`).
+#![tactic(auto)]
+
 ghost use Rattle.std.specs.Prelude.{true, ◌≡◌, ◌+◌, ◌≤◌, length, take, drop};
 ghost use Rattle.listing.specs.Lines.{listed, most};
 

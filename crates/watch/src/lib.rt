@@ -1,5 +1,7 @@
 // What whoever feeds lines keeps beside the receiver: whether a line was refused while the page was open, how many lines there were, and how many bytes were mended
 // in them. A page with such a gap is not called clean, even where the receiver closes it so.
+#![tactic(auto)]
+
 ghost use Rattle.std.specs.Prelude.{cond, ◌&&◌, ◌||◌, ◌≡◌, ◌-◌, eqb};
 ghost use Rattle.receiver.specs.Entries.{answer_paper, closing_number};
 ghost use Rattle.receiver.specs.Recordings.{played_paper};
