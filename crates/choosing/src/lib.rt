@@ -29,7 +29,7 @@ pub struct Chosen {
 }
 
 // What a part has: all rows from the first to the last.
-#[derive(Drop)]
+#[derive(Clone, Copy)]
 struct Span {
     first: u8,
     last: u8,

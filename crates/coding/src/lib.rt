@@ -25,7 +25,7 @@ pub enum Message {
 }
 
 // What a character byte holds: a code of 00 to 7F, or a wrong parity.
-#[derive(Drop)]
+#[derive(Clone, Copy)]
 pub enum Character {
     Good(u8),
     Even,

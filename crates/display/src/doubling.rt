@@ -15,7 +15,7 @@ const FIRST_DOUBLE: usize = 1;
 const LAST_DOUBLE: usize = 22;
 
 // A row of the page: the place behind its last cell, whether it lies below a doubled one, and whether 0D counts on it.
-#[derive(Drop)]
+#[derive(Clone, Copy)]
 pub struct PageRow {
     pub end: usize,
     pub below: bool,

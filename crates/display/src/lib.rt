@@ -20,14 +20,14 @@ pub const LAST_CODE: u8 = 0x7F;
 const FIRST_PRINTED: u8 = 0x20;
 
 // What a cell shows: a letter with its code, or a mosaic with six bits, its cells contiguous or separated.
-#[derive(Drop)]
+#[derive(Clone, Copy)]
 pub enum Symbol {
     Letter(u8),
     Mosaic { pattern: u8, separated: bool },
 }
 
 // Whether a cell is of normal size, or the upper or the lower half of a double one.
-#[derive(Drop)]
+#[derive(Clone, Copy)]
 pub enum Height {
     Normal,
     Upper,
@@ -35,7 +35,7 @@ pub enum Height {
 }
 
 // A symbol with its colours, 0 black to 7 white, and how it is shown.
-#[derive(Drop)]
+#[derive(Clone, Copy)]
 pub struct Cell {
     pub symbol: Symbol,
     pub foreground: u8,

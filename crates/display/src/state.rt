@@ -8,7 +8,7 @@ ghost use Rattle.display.specs.Private.{passed, acts_at_once};
 use crate::{Cell, Height, Symbol};
 
 // What holds from one cell to the next.
-#[derive(Drop)]
+#[derive(Clone, Copy)]
 pub struct RowState {
     pub mosaics: bool,
     pub foreground: u8,

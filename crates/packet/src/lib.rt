@@ -56,7 +56,7 @@ pub enum Address {
 }
 
 // A page header's numbers, in the order of the page record. `control` holds C4 to C14, C4 its most significant bit (`C4_WEIGHT`), C14 its least.
-#[derive(Drop)]
+#[derive(Clone, Copy)]
 pub struct Header {
     pub tens: u8,
     pub units: u8,

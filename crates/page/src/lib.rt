@@ -40,7 +40,7 @@ pub const OLDER: u8 = 1;
 pub const FRESH: u8 = 2;
 
 // The characters of a page, row by row, and their marks.
-#[derive(Drop)]
+#[derive(Clone, Copy)]
 pub struct Cells {
     pub characters: [u8; CELLS],
     pub marks: [u8; CELLS],
@@ -53,7 +53,7 @@ pub const ZERO_CELLS: Cells = Cells {
 };
 
 // A page: magazine 1 to 8, its header, whether it was received without doubt, and its cells.
-#[derive(Drop)]
+#[derive(Clone, Copy)]
 pub struct Page {
     pub magazine: u8,
     pub header: Header,

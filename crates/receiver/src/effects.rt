@@ -17,7 +17,7 @@ use packet::{Header, ZERO_HEADER};
 use page::Cells;
 
 // A receiver without its cells, which lie in two arrays of their own while lines are taken.
-#[derive(Drop)]
+#[derive(Clone, Copy)]
 pub(crate) struct Standing {
     pub(crate) selection: Selection,
     pub(crate) is_open: bool,

@@ -15,7 +15,7 @@ use grid::LAST_ROW;
 use packet::{Header, HeaderRead};
 
 // What the address of a packet shows of its line.
-#[derive(Drop)]
+#[derive(Clone, Copy)]
 pub(crate) enum Seen {
     // Another magazine's, or a row past the last.
     Another,

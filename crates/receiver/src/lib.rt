@@ -26,7 +26,7 @@ use recording::play;
 use selecting::in_range;
 
 // A time code, or any time.
-#[derive(Drop)]
+#[derive(Clone, Copy)]
 pub enum When {
     Any,
     Time {
@@ -38,7 +38,7 @@ pub enum When {
 }
 
 // The page that is wanted.
-#[derive(Drop)]
+#[derive(Clone, Copy)]
 pub struct Selection {
     pub magazine: u8,
     pub tens: u8,
@@ -47,7 +47,7 @@ pub struct Selection {
 }
 
 // A receiver between two lines. With no page open there is no doubt, and the header is zero; the cells stay from the page before.
-#[derive(Drop)]
+#[derive(Clone, Copy)]
 pub struct Receiver {
     pub selection: Selection,
     pub open: bool,
@@ -71,14 +71,14 @@ pub struct New {
 }
 
 // Whether a page closed with a line, and how.
-#[derive(Drop)]
+#[derive(Clone, Copy)]
 pub enum Closing {
     None,
     Clean,
     Doubt,
 }
 
-#[derive(Drop)]
+#[derive(Clone, Copy)]
 pub enum Answer {
     // The line's kind, the count of characters written, the closing word, and how many of the Hamming bytes examined were mended: the two of the address, and
     // in our row 0 the eight control bytes too.
@@ -106,7 +106,7 @@ pub struct Stepped {
 }
 
 // How playing a recording ended: at its end, or at a line that was refused or closed a page.
-#[derive(Drop)]
+#[derive(Clone, Copy)]
 pub enum Played {
     End,
     Stopped(Answer),
@@ -114,7 +114,7 @@ pub enum Played {
 
 // Mended bytes over some lines: how many there were, how many lines had one, and how many were in lines that are a page's own, its header and its rows (kinds 2 and 1).
 // Where the last line closes a page and opens its next sending, the bytes of that line (`mended_of` its answer) are the next sending's.
-#[derive(Drop)]
+#[derive(Clone, Copy)]
 pub struct Mended {
     pub bytes: usize,
     pub lines: usize,
@@ -122,7 +122,7 @@ pub struct Mended {
 }
 
 // The receiver after a recording was played, how many lines were used, the bytes mended in them, the last included, and how it ended.
-#[derive(Drop)]
+#[derive(Clone, Copy)]
 pub struct Recorded {
     pub receiver: Receiver,
     pub used: usize,
