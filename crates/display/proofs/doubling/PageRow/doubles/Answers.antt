@@ -1,0 +1,25 @@
+-- `display::PageRow::doubles` meets its contract: asked by what is known of the row, and then by the row's codes.
+use mathlib.Core.Path.{◌≡◌, ◌∙◌, ap}
+use Prim.Native.Nat.{ℕ, ◌-◌}
+use native.Mathlib.Omega.{arith}
+use lib.ListN.{take, drop}
+use Rattle.grid.specs.Grid.{columns}
+use Rattle.display.specs.Pages.{has_double}
+use Rattle.display.proofs.Choice.{not_asked, asked}
+use borrow.Author.Rules.{rules}
+use Rattle.display.proofs.doubling.PageRow.doubles.Goals as goal
+
+pub returns-then-self : goal.returns-then-self
+returns-then-self c =
+    let row = c.before.before.before.before.args.self in
+    not_asked row.below row.counts _ c.if-self.true
+
+pub returns : goal.returns
+returns c =
+    let start = c.before.before.before.before.before.before in
+    let row = start.args.self in
+    let codes = start.args.codes.now in
+    let long = start.requires.0 in
+    let part : row.end - (row.end - columns) ≡ columns = omega arith in
+    c.has_double.ensures
+    ∙ (ap (λ (n : ℕ). has_double (take n (drop (row.end - columns) codes))) part ∙ asked row.below row.counts _ c.before.before.if-self.false)

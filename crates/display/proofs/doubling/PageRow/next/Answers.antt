@@ -1,0 +1,6 @@
+-- `display::PageRow::next` meets its contract: field by field.
+use borrow.Author.Rules.{rules}
+use Rattle.display.proofs.doubling.PageRow.next.Goals as goal
+
+pub returns : goal.returns
+returns c = rw (c.may_double-counts.ensures, c.before.doubles-below.ensures)

@@ -1,0 +1,11 @@
+-- `display::RowState::own_cell` meets its contract: what is chosen without a branch is the definition's choice, field by field.
+use Rattle.display.proofs.Choice.{set_on, set_off}
+use Rattle.display.specs.Display.{own_cell}
+use borrow.Author.Rules.{rules}
+use Rattle.display.proofs.state.RowState.own_cell.Goals as goal
+
+pub returns : goal.returns
+unfolding own_cell
+returns c =
+    let chosen = c.before.before.before.before.before.before in
+    simp (chosen.symbol_if-held.ensures, chosen.before.blank.ensures, chosen.before.before.number_if-background.ensures, chosen.before.before.before.number_if-lit.ensures, set_on, set_off)
