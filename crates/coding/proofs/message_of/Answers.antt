@@ -54,9 +54,6 @@ by_told byte h answer e = ap decoded_paper (e ∙ right byte h)
 
 -- ---- the code
 
-tests-of-requires : tie.Need-tests-of-requires
-tests-of-requires c κs = search rules
-
 pub returns-then-wrong-ne-B7 : goal.returns-then-wrong-ne-B7
 returns-then-wrong-ne-B7 c =
     let known = c.before.before in
