@@ -1,0 +1,18 @@
+use mathlib.Core.Path.{◌≡◌, ap, ◌∙◌}
+use mathlib.Core.List.{map}
+use Prim.Native.Nat.{◌+◌, ◌-◌, ◌≤◌}
+use native.Mathlib.Omega.{arith}
+use borrow.Author.Rules.{rules}
+use lib.ListN.{length, length-set, set}
+use lib.Seq.{paste, paste-zero}
+use Rattle.packet.specs.Texts.{header_column}
+use Rattle.packet.specs.Writing.{address_bytes, address_length, address_messages, header_bytes, header_length, message_byte}
+use Rattle.packet.proofs.Filling.{behind, filled, filled_more, started}
+use Rattle.packet.proofs.writing.header_bytes.Given as goal
+
+abbrev pub invariant-loop-at : goal.invariant-loop-at
+invariant-loop-at l =
+    (l.at ≤ header_column) × (length l.messages ≡ header_column) × (length l.bytes ≡ header_length) × (l.bytes ≡ paste l.initial.bytes address_length (map message_byte l.messages) l.at)
+
+abbrev pub decreases-loop-at : goal.decreases-loop-at
+decreases-loop-at l = header_column - l.at
