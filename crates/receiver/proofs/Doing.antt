@@ -131,8 +131,8 @@ unfolding doubted
 ready_doubted standing characters marks lent ready o =
     record {
       right = passed (lawful (doubted (joined standing characters marks))) (doubted_lawful (joined standing characters marks) (ready_lawful ready) (rw o tt));
-      all_characters_law = ready.all_characters_law;
-      all_marks_law = ready.all_marks_law;
+      all_characters = ready.all_characters;
+      all_marks = ready.all_marks;
       room = ready.room;
     }
 

@@ -180,6 +180,6 @@ module _ (receiver current : Receiver) (same : current ≡ receiver) (recording 
   pub recording-played : (ended : Ended) (characters marks left : List ℕ) → EndsAs (played current recording lent) ended characters marks left
       → (after : Receiver) → after ≡ joined ended.standing characters marks
       → PlaysAs (played receiver recording lent) (record { receiver = after; used = ended.used; mended = ended.mended; answer = ended.answer }) left
-  recording-played ended characters marks left e after is =
+  recording-played ended characters marks left e receiver_after is =
       plays_as _ left (ap (λ (r : Receiver). played r recording lent) same)
       (record { answered = e.answered; counted = e.counted; mended = e.mended; kept = is ∙ e.kept; left = e.left })

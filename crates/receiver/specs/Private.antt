@@ -107,8 +107,8 @@ joined standing characters marks =
 -- what a line finds that is taken: a lawful receiver with all its cells, and a lent record that is long enough
 pub record Ready (standing : Standing) (characters marks lent : List ℕ) : Type 0 where
   pub right : lawful (joined standing characters marks) ≡ true
-  pub all_characters_law : length characters ≡ cell_count
-  pub all_marks_law : length marks ≡ cell_count
+  pub all_characters : length characters ≡ cell_count
+  pub all_marks : length marks ≡ cell_count
   pub room : record_length ≤ length lent
 
 abbrev pub done_of : Standing → ℕ → ℕ → Closing → Done

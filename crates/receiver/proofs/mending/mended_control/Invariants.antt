@@ -1,0 +1,21 @@
+use mathlib.Core.Path.{◌≡◌, refl, ap, ap₂, ◌∙◌}
+use mathlib.Core.List.{[], ◌∷◌}
+use Prim.Native.Nat.{ℕ, suc, ◌+◌, ◌-◌, ◌≤◌}
+use native.Mathlib.Omega.{arith}
+use borrow.Author.Rules.{rules}
+use lib.ListN.{get_or}
+use Rattle.coding.specs.Bits.{turned_byte}
+use Rattle.coding.specs.Hamming.{how_many_corrected}
+use Rattle.packet.specs.Lines.{packet_bytes}
+use Rattle.packet.specs.Texts.{header_column}
+use Rattle.packet.specs.Writing.{address_length, header_length}
+use Rattle.receiver.proofs.MendedBytes.{at_most, corrected_more, one_at_most}
+use Rattle.receiver.proofs.mending.mended_control.Given as goal
+
+-- so many control bytes are counted
+abbrev pub invariant-loop-at : goal.invariant-loop-at
+invariant-loop-at l =
+    (address_length ≤ l.at) × (l.at ≤ header_length) × (l.mended ≡ how_many_corrected (packet_bytes l.packet 3 (l.at - address_length)))
+
+abbrev pub decreases-loop-at : goal.decreases-loop-at
+decreases-loop-at l = header_length - l.at

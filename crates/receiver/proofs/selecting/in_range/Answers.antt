@@ -1,0 +1,7 @@
+use Rattle.receiver.specs.Selections.{in_range}
+use borrow.Author.Rules.{rules}
+use Rattle.receiver.proofs.selecting.in_range.Goals as goal
+
+pub returns : goal.returns
+unfolding in_range
+returns c = rw c.when_in_range.ensures
