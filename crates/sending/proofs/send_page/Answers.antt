@@ -34,26 +34,26 @@ returns-in-Read c =
     let start = read in
     let wanted = start.args.wanted in
     let room = start.args.room.now in
-    let e = sym (read_is _ _ read.read_record-read.ensures.0) ∙ told.in-Read.is in (
-      ap sent_paper sent.send_parts.ensures.value ∙ answer_is start.args.«record».now wanted room Read e,
-      sent.send_parts.ensures.room_after
+    let e = sym (read_is _ _ read.read_record-read.ensures.0) ∙ told.in-Read.is in record {
+      result_value = ap sent_paper sent.send_parts.ensures.value ∙ answer_is start.args.«record».now wanted room Read e;
+      room_after = sent.send_parts.ensures.room_after
           ∙ (ap (λ (page : Page). parts_sent page.magazine page.header page.cells.characters wanted room) read.read_record-read.ensures.1
           ∙ (parts-sent (page_read start.args.«record».now) wanted room (read_whole start.args.«record».now e)
-          ∙ room-is start.args.«record».now wanted room Read e)),
-    )
+          ∙ room-is start.args.«record».now wanted room Read e));
+    }
 
 pub returns-in-WrongLength : goal.returns-in-WrongLength
 unfolding sent_after room_after
-returns-in-WrongLength c = refused (goal.at.returns-in-WrongLength c).After-read_record-read WrongLength c.in-WrongLength.is
+returns-in-WrongLength c = let both = refused (goal.at.returns-in-WrongLength c).After-read_record-read WrongLength c.in-WrongLength.is in record { result_value = both.0; room_after = both.1 }
 
 pub returns-in-WrongRowCode : goal.returns-in-WrongRowCode
 unfolding sent_after room_after
-returns-in-WrongRowCode c = refused (goal.at.returns-in-WrongRowCode c).After-read_record-read WrongRowCode c.in-WrongRowCode.is
+returns-in-WrongRowCode c = let both = refused (goal.at.returns-in-WrongRowCode c).After-read_record-read WrongRowCode c.in-WrongRowCode.is in record { result_value = both.0; room_after = both.1 }
 
 pub returns-in-BadDigit : goal.returns-in-BadDigit
 unfolding sent_after room_after
-returns-in-BadDigit c = refused (goal.at.returns-in-BadDigit c).After-read_record-read BadDigit c.in-BadDigit.is
+returns-in-BadDigit c = let both = refused (goal.at.returns-in-BadDigit c).After-read_record-read BadDigit c.in-BadDigit.is in record { result_value = both.0; room_after = both.1 }
 
 pub returns-in-UnlawfulCells : goal.returns-in-UnlawfulCells
 unfolding sent_after room_after
-returns-in-UnlawfulCells c = refused (goal.at.returns-in-UnlawfulCells c).After-read_record-read UnlawfulCells c.in-UnlawfulCells.is
+returns-in-UnlawfulCells c = let both = refused (goal.at.returns-in-UnlawfulCells c).After-read_record-read UnlawfulCells c.in-UnlawfulCells.is in record { result_value = both.0; room_after = both.1 }

@@ -17,9 +17,8 @@ overflow_mul-count c = omega (arith, c.line_count-count.ensures, few_chosen 1 c.
 
 pub returns-then-room-count : goal.returns-then-room-count
 returns-then-room-count c =
-    let start = c in
-    parts-refused start.args.magazine start.args.header start.args.characters.now start.args.wanted start.args.room.now
-    c.line_count-count.result c.line_count-count.ensures c.if-room-count.true
+    let start = c in let both = parts-refused start.args.magazine start.args.header start.args.characters.now start.args.wanted start.args.room.now
+    c.line_count-count.result c.line_count-count.ensures c.if-room-count.true in record { value = both.0; room_after = both.1 }
 
 pub store_line-requires : goal.store_line-requires
 unfolding line_count
@@ -48,8 +47,7 @@ returns c =
     let counted = Line-made in
     let start = counted in
     let line-is = Line-made.data_line.ensures ∙ ap data_line (Line-made.header_packet.ensures
-    ∙ (λ i. header_packet start.args.magazine (Line-made.with_c4.ensures i) (Line-made.row_in-text.ensures i))) in
-    parts-done start.args.magazine start.args.header start.args.characters.now start.args.wanted start.args.room.now
+    ∙ (λ i. header_packet start.args.magazine (Line-made.with_c4.ensures i) (Line-made.row_in-text.ensures i))) in let both = parts-done start.args.magazine start.args.header start.args.characters.now start.args.wanted start.args.room.now
     counted.line_count-count.result counted.line_count-count.ensures counted.if-room-count.false _ _
     (line-stored.store_line.ensures ∙ ap (λ (line : List ℕ). line_stored line 0 start.args.room.now) line-is)
-    rows-stored.store_rows.ensures
+    rows-stored.store_rows.ensures in record { value = both.0; room_after = both.1 }

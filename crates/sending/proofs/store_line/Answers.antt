@@ -21,7 +21,7 @@ loop-at-preserved c =
       search rules,
       refl,
       simp length-set loop.invariant.3,
-      rw (add-one loop.at, loop.invariant.4) (paste-suc args.room.now place args.t1 loop.at 0 (omega arith) (omega arith)),
+      rw (add-one loop.at, loop.invariant.4) (paste-suc args.room.now place args.line loop.at 0 (omega arith) (omega arith)),
     )
 
 pub returns : goal.returns
@@ -29,4 +29,4 @@ returns c =
     let args = c.args in
     let loop = c.loop-at in
     let whole : loop.at ≡ line_length = omega arith in
-    loop.invariant.4 ∙ rw (take_all loop.at args.t1 (omega arith), whole)
+    loop.invariant.4 ∙ rw (take_all loop.at args.line (omega arith), whole)

@@ -50,11 +50,11 @@ loop-at-preserved c =
     let whole = row-line-length start.args.magazine start.args.characters.now start.requires.0 (suc loop.at) (omega arith) in (
       search rules,
       search rules,
-      omega (arith, stored.ensures.0, one_more answer loop.count),
+      omega (arith, stored.ensures.value, one_more answer loop.count),
       start.requires.0,
       start.requires.1,
       storing-further line start.args.wanted before start.requires.1 loop.at loop.count loop.room loop.invariant.5 (omega arith) whole
-          stored.result _ stored.ensures.0 stored.ensures.1,
+          stored.result _ stored.ensures.value stored.ensures.room_after,
     )
 
 pub shape_of-room : goal.shape_of-room
