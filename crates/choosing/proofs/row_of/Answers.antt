@@ -3,7 +3,6 @@ use mathlib.Core.Path.{◌≡◌, sym, ◌∙◌}
 use mathlib.Core.Bool.{true}
 use Prim.Native.Nat.{◌≤◌}
 use native.Mathlib.Omega.{arith}
-use borrow.Author.Tests.{not-true, not-false}
 use borrow.Author.Rules.{rules}
 use Rattle.choosing.specs.Chosen.{is_digit, count, row_of}
 use Rattle.choosing.proofs.Numbers.{digit_from, no-such-row, row-there}
@@ -11,10 +10,10 @@ use Rattle.choosing.proofs.row_of.Goals as goal
 use Rattle.choosing.proofs.row_of.Goals.{Else-not-is_digit, Else-not-is_digit-2}
 
 tens-are : (c : Else-not-is_digit) → is_digit c.before.before.args.tens ≡ true
-tens-are c = sym c.before.is_digit.ensures ∙ not-false _ c.if-not-is_digit.false
+tens-are c = sym c.before.is_digit.ensures ∙ c.if-not-is_digit.false
 
 units-are : (c : Else-not-is_digit-2) → is_digit c.before.before.before.before.args.units ≡ true
-units-are c = sym c.before.is_digit-2.ensures ∙ not-false _ c.if-not-is_digit-2.false
+units-are c = sym c.before.is_digit-2.ensures ∙ c.if-not-is_digit-2.false
 
 bounds : (c : Else-not-is_digit-2)
     → let a = c.before.before.before.before.args in
@@ -23,11 +22,11 @@ bounds c = (digit_from _ (tens-are c.before.before), digit_from _ (units-are c))
 
 pub returns-then-not-is_digit : goal.returns-then-not-is_digit
 unfolding row_of
-returns-then-not-is_digit c = rw (sym c.before.is_digit.ensures ∙ not-true _ c.if-not-is_digit.true)
+returns-then-not-is_digit c = rw (sym c.before.is_digit.ensures ∙ c.if-not-is_digit.true)
 
 pub returns-then-not-is_digit-2 : goal.returns-then-not-is_digit-2
 unfolding row_of
-returns-then-not-is_digit-2 c = rw (tens-are c.before.before, sym c.before.is_digit-2.ensures ∙ not-true _ c.if-not-is_digit-2.true)
+returns-then-not-is_digit-2 c = rw (tens-are c.before.before, sym c.before.is_digit-2.ensures ∙ c.if-not-is_digit-2.true)
 
 pub overflow_sub-row : goal.overflow_sub-row
 overflow_sub-row c = omega (arith, bounds c)
