@@ -42,6 +42,7 @@ fn is_digit(byte: u8) -> bool
 }
 
 // The row of two digits, where both are digits and there is such a row.
+#[tactic(auto, unfolding(crate::specs::Chosen::count, crate::specs::Chosen::row_of))]
 fn row_of(tens: u8, units: u8) -> u8
     ensures { result ≡ row_of tens units }
 {

@@ -1,10 +1,9 @@
 -- `choosing::length_before` meets its contract. The loop's invariant: the bytes so far, with the front of those that are left, are the front.
-use mathlib.Core.Path.{◌≡◌, ap}
-use Prim.Native.Nat.{◌+◌, ◌-◌, ◌≤◌}
+use mathlib.Core.Path.{ap}
 use native.Mathlib.Numerals.{add-one}
 use native.Mathlib.Omega.{arith}
 use borrow.Author.Rules.{rules}
-use lib.ListN.{length, drop, drop_of_length-le}
+use lib.ListN.{length, drop_of_length-le}
 use Rattle.choosing.specs.Chosen.{front}
 use Rattle.choosing.proofs.Marks.{front-at-mark, front-goes-on}
 use Rattle.choosing.proofs.length_before.Goals as goal

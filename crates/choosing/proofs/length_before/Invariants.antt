@@ -1,11 +1,7 @@
-use mathlib.Core.Path.{◌≡◌, ap}
+use mathlib.Core.Path.{◌≡◌}
 use Prim.Native.Nat.{◌+◌, ◌-◌, ◌≤◌}
-use native.Mathlib.Numerals.{add-one}
-use native.Mathlib.Omega.{arith}
-use borrow.Author.Rules.{rules}
-use lib.ListN.{length, drop, drop_of_length-le}
+use lib.ListN.{length, drop}
 use Rattle.choosing.specs.Chosen.{front}
-use Rattle.choosing.proofs.Marks.{front-at-mark, front-goes-on}
 use Rattle.choosing.proofs.length_before.Given as goal
 
 abbrev pub invariant-loop-i : goal.invariant-loop-i

@@ -1,6 +1,5 @@
 -- `choosing::row_in` meets its contract: by the text's length.
 use mathlib.Core.Path.{sym, ◌∙◌}
-use borrow.Author.Rules.{rules}
 use Rattle.choosing.proofs.Numbers.{one_digit, two_digits, no_digits}
 use Rattle.choosing.proofs.row_in.Goals as goal
 

@@ -1,14 +1,7 @@
-use mathlib.Core.Path.{◌≡◌, sym, ◌∙◌, ap}
-use mathlib.Core.List.{List, ◌∷◌}
 use Prim.Native.Nat.{◌≤◌}
-use borrow.Author.Rules.{rules}
-use borrow.Author.Tests.{not-true, not-false}
-use lib.ListN.{length, take}
-use lib.Seq.{length-take-le}
-use Rattle.choosing.specs.Chosen.{says_rows, span_of, spans_in}
-use Rattle.choosing.specs.declared.Span.{Span}
-use Rattle.choosing.proofs.Rows.{Gathered, gathered_none, one_more, no_span, says_none, says-rows}
-use Rattle.choosing.proofs.Spans.{first-span, last-span, some-span}
+use lib.ListN.{length}
+use Rattle.choosing.specs.Chosen.{spans_in}
+use Rattle.choosing.proofs.Rows.{Gathered}
 use Rattle.choosing.proofs.rows_asked.Given as goal
 
 abbrev pub invariant-loop-rest : goal.invariant-loop-rest

@@ -1,12 +1,8 @@
-use mathlib.Core.Path.{◌≡◌, ◌∙◌, ap}
+use mathlib.Core.Path.{◌≡◌}
 use mathlib.Core.Bool.{false, ◌||◌}
 use Prim.Native.Nat.{ℕ, suc, ◌-◌, ◌<◌, ◌≤◌}
-use native.Mathlib.Nat.{not-suc-le-zero}
-use native.Mathlib.Numerals.{add-one}
-use borrow.Author.Rules.{rules}
 use lib.ListN.{length, get_or}
 use Rattle.grid.specs.Grid.{last_row}
-use Rattle.laws.proofs.Lists.{stored_more}
 use Rattle.choosing.specs.Chosen.{covers}
 use Rattle.choosing.proofs.with_span.Given as goal
 

@@ -1,18 +1,9 @@
-use mathlib.Core.Path.{◌≡◌, refl, sym, ◌∙◌, ap}
-use mathlib.Core.Bool.{Bool, cond}
-use mathlib.Core.List.{List}
-use mathlib.Core.Logic.{⊎_elim}
-use Prim.Native.Nat.{ℕ, ◌+◌, ◌<◌, ◌≤◌, ◌-◌}
-use native.Mathlib.Omega.{arith}
-use borrow.Author.Rules.{rules}
-use lib.ListN.{length}
+use mathlib.Core.Path.{◌≡◌}
+use mathlib.Core.Bool.{cond}
+use Prim.Native.Nat.{◌≤◌, ◌-◌}
 use Rattle.grid.specs.Grid.{cell_count}
-use Rattle.display.specs.Display.{cell_at}
 use Rattle.display.specs.Pages.{is_page}
-use Rattle.display.proofs.Pages.{all_shown}
-use Rattle.display.proofs.Codes.{control-cell, control-next}
-use Rattle.display.proofs.Steps.{low_as, read_control, read_printed}
-use Rattle.display.proofs.Walks.{Ahead, Filled, Reached, begun, above-there, cell-alone, ahead-alone, cell-under, ahead-under, stored, filled_as, next-column, next_row, at_end}
+use Rattle.display.proofs.Walks.{Reached}
 use Rattle.display.proofs.cells_of.Given as goal
 
 abbrev pub invariant-loop-row : goal.invariant-loop-row

@@ -1,13 +1,11 @@
 -- `display::is_page` meets its contract. The loop's invariant: the page's are all codes just where none so far was too high and those from here on are.
 use mathlib.Core.Path.{◌≡◌, refl, ◌∙◌}
-use mathlib.Core.Bool.{not, ◌&&◌, and-true}
+use mathlib.Core.Bool.{and-true}
 use mathlib.Core.List.{[]}
-use Prim.Native.Nat.{◌≤◌, ◌-◌}
 use borrow.Author.Rules.{rules}
 use borrow.Author.Tests.{eq-eqb, ne_eqb}
-use lib.ListN.{length, drop, drop_of_length-le}
-use Rattle.grid.specs.Grid.{cell_count}
-use Rattle.display.specs.Pages.{all_codes, is_page}
+use lib.ListN.{drop, drop_of_length-le}
+use Rattle.display.specs.Pages.{is_page}
 use Rattle.display.proofs.Steps.{codes_none, one_asked}
 use Rattle.display.proofs.is_page.Goals as goal
 

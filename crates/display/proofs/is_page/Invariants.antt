@@ -1,13 +1,9 @@
-use mathlib.Core.Path.{◌≡◌, refl, ◌∙◌}
-use mathlib.Core.Bool.{not, ◌&&◌, and-true}
-use mathlib.Core.List.{[]}
+use mathlib.Core.Path.{◌≡◌}
+use mathlib.Core.Bool.{not, ◌&&◌}
 use Prim.Native.Nat.{◌≤◌, ◌-◌}
-use borrow.Author.Rules.{rules}
-use borrow.Author.Tests.{eq-eqb, ne_eqb}
-use lib.ListN.{length, drop, drop_of_length-le}
+use lib.ListN.{length, drop}
 use Rattle.grid.specs.Grid.{cell_count}
-use Rattle.display.specs.Pages.{all_codes, is_page}
-use Rattle.display.proofs.Steps.{codes_none, one_asked}
+use Rattle.display.specs.Pages.{all_codes}
 use Rattle.display.proofs.is_page.Given as goal
 
 abbrev pub invariant-loop-place : goal.invariant-loop-place

@@ -1,6 +1,5 @@
 -- `display::page_of` meets its contract: the test is the definition's, and each answer has its number and its cells.
 use mathlib.Core.Path.{sym}
-use borrow.Author.Rules.{rules}
 use Rattle.display.specs.Pages.{displayed_paper}
 use Rattle.display.proofs.Pages.{answer_is}
 use Rattle.display.proofs.page_of.Goals as goal

@@ -1,11 +1,9 @@
 -- `display::has_double` meets its contract. The loop's invariant: one of the codes is 0D just where one so far was, or one from here on is.
 use mathlib.Core.Path.{◌≡◌, refl, ◌∙◌}
-use mathlib.Core.Bool.{◌||◌, or-false}
+use mathlib.Core.Bool.{or-false}
 use mathlib.Core.List.{[]}
-use Prim.Native.Nat.{◌≤◌, ◌-◌}
 use borrow.Author.Rules.{rules}
-use lib.ListN.{length, drop, drop_of_length-le}
-use Rattle.display.specs.Pages.{has_double}
+use lib.ListN.{drop, drop_of_length-le}
 use Rattle.display.proofs.Steps.{double_from, double_none}
 use Rattle.display.proofs.doubling.has_double.Goals as goal
 

@@ -1,11 +1,8 @@
-use mathlib.Core.Path.{◌≡◌, refl, ◌∙◌}
-use mathlib.Core.Bool.{◌||◌, or-false}
-use mathlib.Core.List.{[]}
+use mathlib.Core.Path.{◌≡◌}
+use mathlib.Core.Bool.{◌||◌}
 use Prim.Native.Nat.{◌≤◌, ◌-◌}
-use borrow.Author.Rules.{rules}
-use lib.ListN.{length, drop, drop_of_length-le}
+use lib.ListN.{length, drop}
 use Rattle.display.specs.Pages.{has_double}
-use Rattle.display.proofs.Steps.{double_from, double_none}
 use Rattle.display.proofs.doubling.has_double.Given as goal
 
 abbrev pub invariant-loop-i : goal.invariant-loop-i

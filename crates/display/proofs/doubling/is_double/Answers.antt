@@ -1,6 +1,5 @@
 -- `display::is_double` meets its contract: height by height.
 use Rattle.display.specs.Pages.{is_double}
-use borrow.Author.Rules.{rules}
 use Rattle.display.proofs.doubling.is_double.Goals as goal
 
 pub returns-in-Normal : goal.returns-in-Normal

@@ -1,5 +1,4 @@
 -- `display::under` meets its contract: a lower half under a double cell, and a space under any other.
-use borrow.Author.Rules.{rules}
 use Rattle.display.specs.Pages.{under}
 use Rattle.display.proofs.doubling.under.Goals as goal
 

@@ -6,7 +6,6 @@ use lib.ListN.{take, drop}
 use Rattle.grid.specs.Grid.{columns}
 use Rattle.display.specs.Pages.{has_double}
 use Rattle.display.proofs.Choice.{not_asked, asked}
-use borrow.Author.Rules.{rules}
 use Rattle.display.proofs.doubling.PageRow.doubles.Goals as goal
 
 pub returns-then-self : goal.returns-then-self

@@ -1,5 +1,4 @@
 -- `display::PageRow::next` meets its contract: field by field.
-use borrow.Author.Rules.{rules}
 use Rattle.display.proofs.doubling.PageRow.next.Goals as goal
 
 pub returns : goal.returns

@@ -1,7 +1,6 @@
 -- `display::RowState::after` meets its contract: a code that acts at once has no effect after its cell.
 use mathlib.Core.Path.{sym, ◌∙◌}
 use Rattle.display.proofs.Codes.{once_after}
-use borrow.Author.Rules.{rules}
 use Rattle.display.proofs.state.RowState.after.Goals as goal
 
 pub returns-then-acts_at_once : goal.returns-then-acts_at_once

@@ -2,7 +2,6 @@
 use Rattle.display.proofs.Choice.{set_on, set_off, switched}
 use Rattle.display.proofs.Codes.{control-gives}
 use Rattle.display.specs.Display.{after_cell}
-use borrow.Author.Rules.{rules}
 use Rattle.display.proofs.state.RowState.after_cell.Goals as goal
 
 pub returns : goal.returns

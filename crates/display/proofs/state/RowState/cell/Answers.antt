@@ -1,6 +1,5 @@
 -- `display::RowState::cell` meets its contract: field by field.
 use Rattle.display.specs.Display.{cell}
-use borrow.Author.Rules.{rules}
 use Rattle.display.proofs.state.RowState.cell.Goals as goal
 
 pub returns : goal.returns

@@ -1,6 +1,5 @@
 -- `display::RowState::mosaic` meets its contract.
 use Rattle.display.specs.Display.{mosaic}
-use borrow.Author.Rules.{rules}
 use Rattle.display.proofs.state.RowState.mosaic.Goals as goal
 
 pub returns : goal.returns

@@ -1,7 +1,6 @@
 -- `display::RowState::own` meets its contract: a code that does not act at once has no effect at its own cell.
 use mathlib.Core.Path.{sym, ◌∙◌}
 use Rattle.display.proofs.Codes.{late-own}
-use borrow.Author.Rules.{rules}
 use Rattle.display.proofs.state.RowState.own.Goals as goal
 
 pub returns-then-acts_at_once : goal.returns-then-acts_at_once

@@ -1,7 +1,6 @@
 -- `display::RowState::own_cell` meets its contract: what is chosen without a branch is the definition's choice, field by field.
 use Rattle.display.proofs.Choice.{set_on, set_off}
 use Rattle.display.specs.Display.{own_cell}
-use borrow.Author.Rules.{rules}
 use Rattle.display.proofs.state.RowState.own_cell.Goals as goal
 
 pub returns : goal.returns

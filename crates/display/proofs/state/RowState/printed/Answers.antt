@@ -1,7 +1,6 @@
 -- `display::RowState::printed` meets its contract: a printed code has no effect of its own, so that what it shows, and what is held after it, is all.
 use mathlib.Core.Path.{sym, ◌∙◌}
 use Rattle.display.proofs.Codes.{printed-cell, printed-next}
-use borrow.Author.Rules.{rules}
 use Rattle.display.proofs.state.RowState.printed.Goals as goal
 
 pub returns-then-gives_pattern : goal.returns-then-gives_pattern

@@ -1,6 +1,5 @@
 -- `display::RowState::shown_control` meets its contract.
 use Rattle.display.specs.Display.{shown_control}
-use borrow.Author.Rules.{rules}
 use Rattle.display.proofs.state.RowState.shown_control.Goals as goal
 
 pub returns : goal.returns

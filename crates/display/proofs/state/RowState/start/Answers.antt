@@ -1,6 +1,5 @@
 -- `display::RowState::start` meets its contract: field by field.
 use Rattle.display.specs.Display.{start}
-use borrow.Author.Rules.{rules}
 use Rattle.display.proofs.state.RowState.start.Goals as goal
 
 pub returns : goal.returns
