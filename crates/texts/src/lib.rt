@@ -51,6 +51,7 @@ pub fn digits_of(number: u64) -> Digits
 }
 
 // A digit of 0 to 15, "0" to "9" and "A" to "F".
+#[tactic(auto, unfolding(crate::specs::Decimal::digit_text))]
 pub fn digit_text(number: u8) -> u8
     ensures { result ≡ digit_text number }
 {

@@ -1,7 +1,7 @@
 -- `texts::put_whole` meets its contract. The loop's invariant: so many of the text's bytes are in their place.
 use mathlib.Core.Path.{◌≡◌, refl, sym, ◌∙◌, ap}
 use mathlib.Core.List.{List}
-use Prim.Native.Nat.{ℕ, ◌+◌, ◌≤◌, ◌-◌}
+use Prim.Native.Nat.{ℕ, ◌+◌, ◌≤◌}
 use native.Mathlib.Numerals.{add-one}
 use native.Mathlib.Omega.{arith}
 use borrow.Author.Rules.{rules}
@@ -9,22 +9,20 @@ use lib.ListN.{length, get_or, set}
 use lib.Seq.{paste, paste-zero, paste-suc, length-paste}
 use Rattle.texts.proofs.Putting.{pasted}
 use Rattle.texts.proofs.put_whole.Goals as goal
-use Rattle.texts.proofs.put_whole.Goals.{At-loop-i}
 
 -- the room has its length at each turn
-room-length : (c : At-loop-i) → length c.loop-i.room ≡ length c.before.args.room.now
-room-length c =
-    let fits = c.loop-i.invariant.1 in
-    let within = c.loop-i.invariant.0 in
-    ap length c.loop-i.invariant.2 ∙ length-paste c.before.args.room.now c.before.args.at c.before.args.text.now c.loop-i.i (omega arith) within
+room-length : (room : List ℕ) (at : ℕ) (text : List ℕ) (i : ℕ) (after : List ℕ)
+    → i ≤ length text → at + length text ≤ length room → after ≡ paste room at text i → length after ≡ length room
+room-length room at text i after within fits is = ap length is ∙ length-paste room at text i (omega arith) within
 
 pub loop-i-init : goal.loop-i-init
 loop-i-init c = (search rules, c.requires, paste-zero c.args.room.now c.args.at c.args.text.now)
 
 pub bounds-room-at : goal.bounds-room-at
 bounds-room-at c =
-    let same = room-length c.before.before in
-    let fits = c.before.before.loop-i.invariant.1 in
+    let loop = c.loop-i.invariant in
+    let same = room-length c.args.room.now c.args.at c.args.text.now c.loop-i.i c.loop-i.room loop.0 loop.1 loop.2 in
+    let fits = loop.1 in
     omega arith
 
 pub loop-i-preserved : goal.loop-i-preserved
@@ -45,7 +43,9 @@ pub overflow_add-result : goal.overflow_add-result
 overflow_add-result c = let fits = c.before.loop-i.invariant.1 in search rules
 
 pub shape_of-room : goal.shape_of-room
-shape_of-room c = room-length c.before
+shape_of-room c =
+    let loop = c.loop-i.invariant in
+    room-length c.args.room.now c.args.at c.args.text.now c.loop-i.i c.loop-i.room loop.0 loop.1 loop.2
 
 pub returns : goal.returns
 returns c =

@@ -1,7 +1,6 @@
 -- `letters::letter_in` meets its contract: by whether the set has a letter at the code's position.
 use mathlib.Core.Path.{sym, ◌∙◌, ap}
 use Prim.Native.Nat.{ℕ}
-use borrow.Author.Rules.{rules}
 use lib.ListN.{get_or, get_or-eq_default}
 use Rattle.laws.proofs.Lists.{get_d_any}
 use Rattle.letters.specs.Sets.{letter_in}

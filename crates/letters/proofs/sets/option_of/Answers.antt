@@ -1,6 +1,5 @@
 -- `letters::option_of` meets its contract: each bit by its weight.
 use native.Mathlib.Omega.{arith}
-use borrow.Author.Rules.{rules}
 use Rattle.letters.specs.Sets.{option_of}
 use Rattle.letters.proofs.sets.option_of.Goals as goal
 

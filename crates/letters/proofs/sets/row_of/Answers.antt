@@ -2,7 +2,6 @@
 use mathlib.Core.Path.{◌≡◌, sym, ◌∙◌, ap}
 use mathlib.Core.Bool.{Bool, cond}
 use Prim.Native.Nat.{ℕ}
-use borrow.Author.Rules.{rules}
 use Rattle.letters.specs.Private.{row_of}
 use Rattle.letters.specs.Sets.{option_of, stands_in}
 use Rattle.letters.proofs.sets.row_of.Goals as goal

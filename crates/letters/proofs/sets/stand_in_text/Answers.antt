@@ -3,7 +3,6 @@ use mathlib.Core.Path.{ap}
 use mathlib.Core.List.{[], ◌∷◌, ◌++◌}
 use Prim.Native.Nat.{ℕ, ◌+◌}
 use native.Mathlib.Omega.{arith}
-use borrow.Author.Rules.{rules}
 use Rattle.letters.specs.Said.{stand_in_text, stand_in_words}
 use Rattle.letters.proofs.National.{option_small}
 use Rattle.letters.proofs.sets.stand_in_text.Goals as goal

@@ -1,6 +1,5 @@
 -- `letters::stands_in` meets its contract: by the value, and how many sets there are.
 use mathlib.Core.Path.{ap}
-use borrow.Author.Rules.{rules}
 use lib.Dec.{leb}
 use lib.ListN.{length}
 use Rattle.letters.specs.Sets.{sets, stands_in}
