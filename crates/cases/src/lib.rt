@@ -44,37 +44,37 @@ pub fn start(bytes: &[u8], count: usize) -> &[u8]
     bytes
 }
 
-pub fn put(bytes: &[u8]) {
-    console::say(bytes);
+pub fn put(rt: &(impl Print + Eprint), bytes: &[u8]) {
+    console::say(rt, bytes);
 }
 
-pub fn put_byte(byte: u8) {
+pub fn put_byte(rt: &(impl Print + Eprint), byte: u8) {
     let one = [byte];
-    put(&one);
+    put(rt, &one);
 }
 
 // The sort of the next case, or `END`.
-pub fn next_sort() -> u8 {
+pub fn next_sort(rt: &(impl Input + Eprint)) -> u8 {
     let mut sort = [END];
-    console::read_all(&mut sort);
+    console::read_all(rt, &mut sort);
     sort[0]
 }
 
-fn fill(room: &mut [u8]) {
+fn fill(rt: &(impl Input + Eprint), room: &mut [u8]) {
     let size = room.len();
-    if console::read_all(room) < size {
-        console::complain(b"a case is cut short\n");
+    if console::read_all(rt, room) < size {
+        console::complain(rt, b"a case is cut short\n");
     }
 }
 
 // The next part of a case, which is put at the start of a room of the longest part's size: two bytes with its length, and so many bytes.
-pub fn next_part(room: &mut [u8]) -> &mut [u8] {
+pub fn next_part<'a>(rt: &(impl Input + Eprint), room: &'a mut [u8]) -> &'a mut [u8] {
     let mut length = [0u8; 2];
-    fill(&mut length);
+    fill(rt, &mut length);
     let count = double(&length) as usize;
     if count <= room.len() {
         let part = &mut room[..count];
-        fill(part);
+        fill(rt, part);
         return part;
     }
     room

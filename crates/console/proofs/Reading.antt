@@ -5,8 +5,7 @@ use Prim.Native.Nat.{ℕ, ◌+◌, ◌-◌, ◌≤◌, ◌<◌}
 use native.Mathlib.Omega.{arith}
 use lib.ListN.{length}
 use lib.Seq.{length-take-le}
-use Rattle.io.specs.Counts.{IsPrefixLen}
-use Rattle.console.specs.Read.{Read, Within}
+use Rattle.console.specs.Read.{IsPrefixLen, Read, Within}
 use Rattle.console.specs.declared.Got.{Got}
 use Rattle.console.specs.declared.Got.TheVariants.{Bytes, End, Failed}
 

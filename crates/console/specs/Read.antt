@@ -19,3 +19,7 @@ Within Failed place buffer = Unit {0}
 pub record ReadBehind (got : Got) (place : ℕ) (before after : List ℕ) : Type 0 where
   pub within : Within got place before
   pub kept : take place after ≡ take place before
+
+-- a count of a buffer's first bytes: no more than there are
+abbrev pub IsPrefixLen : ℕ → List ℕ → Type 0
+IsPrefixLen count buffer = (count ≤ length buffer) × (count ≡ length (take count buffer))

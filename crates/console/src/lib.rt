@@ -2,10 +2,17 @@
 // standard error. What is read or written is no part of a contract.
 #![tactic(auto)]
 
-ghost use Rattle.console.specs.Read.{Read, ReadBehind};
-ghost use Rattle.io.specs.Counts.{IsPrefixLen};
+ghost use Rattle.console.specs.Read.{IsPrefixLen, Read, ReadBehind};
 
-use libc::{STDERR_FILENO, STDIN_FILENO, STDOUT_FILENO};
+use std::fmt::{Display, Formatter};
+use std::io::{Error, ErrorKind, Write};
+use std::{fmt, str};
+
+// A read that a signal cuts short is done again, so many times.
+const TRIES: usize = 64;
+
+// Room for an error's text: the system's reason, and its number behind it.
+const ROOM: usize = 256;
 
 // What a read gave.
 #[derive(Drop)]
@@ -17,38 +24,66 @@ pub enum Got {
     Failed,
 }
 
-fn read_some(buffer: &mut [u8]) -> Got
+// The system's reason alone, where std writes a number behind it, as in "Is a directory (os error 21)".
+#[derive(Drop)]
+struct Reason(Error);
+
+impl Display for Reason {
+    fn fmt<W: fmt::Write>(&self, f: &mut Formatter<W>) -> fmt::Result {
+        let mut room = [0u8; ROOM];
+        let _ = write!(&mut room[..], "{}", self.0);
+        let text = str::from_utf8(&room).unwrap_or("");
+        let reason = match text.rsplit_once(" (os error ") {
+            Some((reason, _)) => reason,
+            None => text.trim_end_matches('\0'),
+        };
+        f.write_str(reason)
+    }
+}
+
+// Says on standard error what failed and why.
+fn fail(rt: &impl Eprint, what: &str, error: Error) {
+    let reason = Reason(error);
+    let _ = rt.eprintln(format_args!("{what}: {reason}"));
+}
+
+fn read_some(rt: &(impl Input + Eprint), buffer: &mut [u8]) -> Got
     ensures { Read result buffer.new }
 {
-    let got = libc::read(STDIN_FILENO, buffer);
-    if got < 0 {
-        os::fail(b"standard input");
-        return Got::Failed;
+    let mut reader = rt.reader();
+    for _ in 0..TRIES {
+        match std::io::Read::read(&mut reader, buffer) {
+            Ok(0) => return Got::End,
+            Ok(count) => return Got::Bytes(count),
+            Err(error) => {
+                if error.kind() != ErrorKind::Interrupted {
+                    fail(rt, "standard input", error);
+                    return Got::Failed;
+                }
+            }
+        }
     }
-    let count = io::count(got, buffer);
-    if count == 0 {
-        return Got::End;
-    }
-    Got::Bytes(count)
+    fail(rt, "standard input", Error::from(ErrorKind::Interrupted));
+    Got::Failed
 }
 
 // Reads some bytes into the buffer from a place on, as many as are there: it waits for the first alone. What lies before the place is as it was.
-pub fn read_behind(buffer: &mut [u8], place: usize) -> Got
+pub fn read_behind(rt: &(impl Input + Eprint), buffer: &mut [u8], place: usize) -> Got
     ensures { ReadBehind result place buffer.old buffer.new }
 {
     if place >= buffer.len() {
         return Got::Bytes(0);
     }
-    read_some(&mut buffer[place..])
+    read_some(rt, &mut buffer[place..])
 }
 
 // Reads until the buffer is full, or the input ends or fails, and answers how many bytes were read.
-pub fn read_all(buffer: &mut [u8]) -> usize
+pub fn read_all(rt: &(impl Input + Eprint), buffer: &mut [u8]) -> usize
     ensures { IsPrefixLen result buffer.new }
 {
     let mut count = 0;
     while count < buffer.len() {
-        match read_behind(buffer, count) {
+        match read_behind(rt, buffer, count) {
             Got::Bytes(more) => count += more,
             Got::End => return count,
             Got::Failed => return count,
@@ -58,19 +93,26 @@ pub fn read_all(buffer: &mut [u8]) -> usize
 }
 
 // Writes a text to standard output, and answers whether that went well; where it did not, standard error says why.
-pub fn say(text: &[u8]) -> bool {
-    if io::write_all(STDOUT_FILENO, text) {
-        return true;
+pub fn say(rt: &(impl Print + Eprint), text: &[u8]) -> bool {
+    match rt.write_all(text) {
+        Ok(()) => true,
+        Err(error) => {
+            fail(rt, "standard output", error);
+            false
+        }
     }
-    os::fail(b"standard output");
-    false
 }
 
 // Writes to standard error.
-pub fn complain(text: &[u8]) {
-    io::write_all(STDERR_FILENO, text);
+pub fn complain(rt: &impl Eprint, text: &[u8]) {
+    for chunk in text.utf8_chunks() {
+        let _ = rt.eprint(chunk.valid());
+        if !chunk.invalid().is_empty() {
+            let _ = rt.eprint('\u{FFFD}');
+        }
+    }
 }
 
-pub fn complain_number(number: u64) {
-    io::print_decimal(STDERR_FILENO, number);
+pub fn complain_number(rt: &impl Eprint, number: u64) {
+    let _ = rt.eprint(number);
 }

@@ -196,11 +196,11 @@ fn done(work: u8, input: &[u8], count: usize) -> u8 {
     }
 }
 
-fn main() {
+fn main(rt: HostRuntime) {
     let mut room = [0u8; cases::LONGEST];
-    let work = cases::next_sort();
-    let number = cases::next_part(&mut room);
+    let work = cases::next_sort(&rt);
+    let number = cases::next_part(&rt, &mut room);
     let count = cases::double(number) as usize;
-    let input = cases::next_part(&mut room);
-    cases::put_byte(done(work, input, count));
+    let input = cases::next_part(&rt, &mut room);
+    cases::put_byte(&rt, done(work, input, count));
 }

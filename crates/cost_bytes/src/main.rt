@@ -65,9 +65,9 @@ fn done(work: u8, bytes: &[u8]) -> u8 {
     }
 }
 
-fn main() {
+fn main(rt: HostRuntime) {
     let mut room = [0u8; cases::LONGEST];
-    let work = cases::next_sort();
-    let bytes = cases::next_part(&mut room);
-    cases::put_byte(done(work, bytes));
+    let work = cases::next_sort(&rt);
+    let bytes = cases::next_part(&rt, &mut room);
+    cases::put_byte(&rt, done(work, bytes));
 }

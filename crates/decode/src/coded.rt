@@ -24,7 +24,7 @@ fn character_byte(byte: u8) -> u8 {
     }
 }
 
-pub(crate) fn answer_byte(input: &[u8]) {
+pub(crate) fn answer_byte(rt: &(impl Print + Eprint), input: &[u8]) {
     let byte = cases::byte_at(input, 0);
     let tests = coding::tests_of(byte);
     let message = message_bytes(byte);
@@ -39,14 +39,14 @@ pub(crate) fn answer_byte(input: &[u8]) {
         message[1],
         character_byte(byte),
     ];
-    cases::put(&answer);
+    cases::put(rt, &answer);
 }
 
-pub(crate) fn answer_framing(line: &[u8]) {
+pub(crate) fn answer_framing(rt: &(impl Print + Eprint), line: &[u8]) {
     match packet::framed_line(line) {
-        Framed::Packet => cases::put_byte(0),
-        Framed::WrongLength => cases::put_byte(10),
-        Framed::WrongFraming => cases::put_byte(11),
+        Framed::Packet => cases::put_byte(rt, 0),
+        Framed::WrongLength => cases::put_byte(rt, 10),
+        Framed::WrongFraming => cases::put_byte(rt, 11),
     }
 }
 
@@ -61,7 +61,7 @@ fn address_bytes(packet: &[u8]) -> [u8; 4] {
     }
 }
 
-fn put_header(number: u8, header: Header) {
+fn put_header(rt: &(impl Print + Eprint), number: u8, header: Header) {
     let bytes = [
         number,
         header.tens,
@@ -73,23 +73,23 @@ fn put_header(number: u8, header: Header) {
         (header.control / 256) as u8,
         (header.control % 256) as u8,
     ];
-    cases::put(&bytes);
+    cases::put(rt, &bytes);
 }
 
 // The number, or FF where a message is refused, and the header.
-fn answer_header(packet: &[u8]) {
+fn answer_header(rt: &(impl Print + Eprint), packet: &[u8]) {
     match packet::header_of(packet) {
-        HeaderRead::Good(header) => put_header(0, header),
-        HeaderRead::Spoiled => put_header(REFUSED, ZERO_HEADER),
-        HeaderRead::WrongLength => put_header(10, ZERO_HEADER),
+        HeaderRead::Good(header) => put_header(rt, 0, header),
+        HeaderRead::Spoiled => put_header(rt, REFUSED, ZERO_HEADER),
+        HeaderRead::WrongLength => put_header(rt, 10, ZERO_HEADER),
     }
 }
 
-pub(crate) fn answer_packet(packet: &[u8]) {
+pub(crate) fn answer_packet(rt: &(impl Print + Eprint), packet: &[u8]) {
     let address = address_bytes(packet);
-    cases::put(&address);
-    answer_header(packet);
+    cases::put(rt, &address);
+    answer_header(rt, packet);
     let text = packet::text_of(packet);
     let bytes = text.bytes;
-    cases::put(&bytes);
+    cases::put(rt, &bytes);
 }

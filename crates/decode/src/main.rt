@@ -10,46 +10,46 @@ mod units;
 // The answer to a sort that is not known.
 const UNKNOWN: u8 = 0xFF;
 
-fn answer(sort: u8, input: &[u8]) {
+fn answer(rt: &(impl Print + Eprint), sort: u8, input: &[u8]) {
     match sort {
-        b'b' => coded::answer_byte(input),
-        b'n' => coded::answer_framing(input),
-        b'a' => coded::answer_packet(input),
-        b'f' => units::answer_search(input),
-        b'u' => units::answer_unit(input),
-        b'g' => shown::answer_page(input),
-        b'e' => sent::answer_bytes(input),
-        b'k' => sent::answer_packets(input),
-        b'i' => lettered::answer_form(input),
-        b'c' => lettered::answer_letter(input),
-        b'o' => lettered::answer_text(input),
-        _ => cases::put_byte(UNKNOWN),
+        b'b' => coded::answer_byte(rt, input),
+        b'n' => coded::answer_framing(rt, input),
+        b'a' => coded::answer_packet(rt, input),
+        b'f' => units::answer_search(rt, input),
+        b'u' => units::answer_unit(rt, input),
+        b'g' => shown::answer_page(rt, input),
+        b'e' => sent::answer_bytes(rt, input),
+        b'k' => sent::answer_packets(rt, input),
+        b'i' => lettered::answer_form(rt, input),
+        b'c' => lettered::answer_letter(rt, input),
+        b'o' => lettered::answer_text(rt, input),
+        _ => cases::put_byte(rt, UNKNOWN),
     }
 }
 
 // One case and its answer; false at the end of the cases.
-fn answer_next(room: &mut [u8]) -> bool {
-    let sort = cases::next_sort();
+fn answer_next(rt: &(impl Input + Print + Eprint), room: &mut [u8]) -> bool {
+    let sort = cases::next_sort(rt);
     if sort == cases::END {
         return false;
     }
-    let input = cases::next_part(room);
-    answer(sort, input);
+    let input = cases::next_part(rt, room);
+    answer(rt, sort, input);
     true
 }
 
 // All cases. The count of turns is there so that the loop is seen to end.
-fn answer_all(room: &mut [u8]) {
+fn answer_all(rt: &(impl Input + Print + Eprint), room: &mut [u8]) {
     let mut turns = u64::MAX;
     while turns > 0 {
-        if !answer_next(room) {
+        if !answer_next(rt, room) {
             return;
         }
         turns -= 1;
     }
 }
 
-fn main() {
+fn main(rt: HostRuntime) {
     let mut room = [0u8; cases::LONGEST];
-    answer_all(&mut room);
+    answer_all(&rt, &mut room);
 }

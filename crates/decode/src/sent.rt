@@ -7,10 +7,10 @@ const HEADER: usize = 2;
 
 const CHARACTERS: usize = 10;
 
-pub(crate) fn answer_bytes(input: &[u8]) {
+pub(crate) fn answer_bytes(rt: &(impl Print + Eprint), input: &[u8]) {
     let byte = cases::byte_at(input, 0);
     let answer = [coding::sent_message(byte), coding::sent_character(byte)];
-    cases::put(&answer);
+    cases::put(rt, &answer);
 }
 
 fn header_of(form: &[u8]) -> Header {
@@ -36,12 +36,12 @@ fn row_of(bytes: &[u8]) -> [u8; COLUMNS] {
 }
 
 // The same characters in both packets: the header's messages are laid over the first eight.
-pub(crate) fn answer_packets(input: &[u8]) {
+pub(crate) fn answer_packets(rt: &(impl Print + Eprint), input: &[u8]) {
     let magazine = cases::byte_at(input, 0);
     let characters = row_of(cases::rest(input, CHARACTERS));
     let row = packet::row_packet(magazine, cases::byte_at(input, 1), characters);
-    cases::put(&row);
+    cases::put(rt, &row);
     let header = header_of(cases::rest(input, HEADER));
     let first = packet::header_packet(magazine, header, characters);
-    cases::put(&first);
+    cases::put(rt, &first);
 }

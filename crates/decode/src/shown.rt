@@ -30,7 +30,7 @@ fn height_number(height: Height) -> u8 {
     }
 }
 
-fn put_cell(cell: Cell) {
+fn put_cell(rt: &(impl Print + Eprint), cell: Cell) {
     let symbol = cell.symbol;
     let height = cell.height;
     let bytes = [
@@ -43,29 +43,29 @@ fn put_cell(cell: Cell) {
         cell.boxed as u8,
         height_number(height),
     ];
-    cases::put(&bytes);
+    cases::put(rt, &bytes);
 }
 
-fn put_cells(cells: [Cell; CELLS]) {
+fn put_cells(rt: &(impl Print + Eprint), cells: [Cell; CELLS]) {
     let mut place = 0;
     while place < CELLS {
         let cell = cells[place];
-        put_cell(cell);
+        put_cell(rt, cell);
         place += 1;
     }
 }
 
-pub(crate) fn put_answer(answer: DisplayAnswer) {
+pub(crate) fn put_answer(rt: &(impl Print + Eprint), answer: DisplayAnswer) {
     match answer {
-        DisplayAnswer::Shown => cases::put_byte(0),
-        DisplayAnswer::Refused => cases::put_byte(25),
+        DisplayAnswer::Shown => cases::put_byte(rt, 0),
+        DisplayAnswer::Refused => cases::put_byte(rt, 25),
     }
 }
 
-pub(crate) fn answer_page(codes: &[u8]) {
+pub(crate) fn answer_page(rt: &(impl Print + Eprint), codes: &[u8]) {
     let page = display::page_of(codes);
     let answer = page.answer;
-    put_answer(answer);
+    put_answer(rt, answer);
     let cells = page.cells;
-    put_cells(cells);
+    put_cells(rt, cells);
 }

@@ -15,7 +15,14 @@ fn place_of(input: &[u8]) -> usize {
 }
 
 // Three numbers of a byte, and two of four bytes.
-fn put_five(number: u8, first: u8, second: u8, place: usize, after: usize) {
+fn put_five(
+    rt: &(impl Print + Eprint),
+    number: u8,
+    first: u8,
+    second: u8,
+    place: usize,
+    after: usize,
+) {
     let bytes = [
         number,
         first,
@@ -29,32 +36,32 @@ fn put_five(number: u8, first: u8, second: u8, place: usize, after: usize) {
         (after / 256 % 256) as u8,
         (after % 256) as u8,
     ];
-    cases::put(&bytes);
+    cases::put(rt, &bytes);
 }
 
-pub(crate) fn answer_search(input: &[u8]) {
+pub(crate) fn answer_search(rt: &(impl Print + Eprint), input: &[u8]) {
     match field::search(cases::rest(input, PLACE), place_of(input)) {
         Found::Packet {
             packet,
             parity,
             offset,
             after,
-        } => put_five(0, parity, offset, packet, after),
-        Found::NoMore => put_five(0, 0, 0, 0, 0),
-        Found::NoField => put_five(14, 0, 0, 0, 0),
-        Found::PastField => put_five(17, 0, 0, 0, 0),
-        Found::Short(at) => put_five(15, 0, 0, at, 0),
-        Found::WrongLength(at) => put_five(16, 0, 0, at, 0),
+        } => put_five(rt, 0, parity, offset, packet, after),
+        Found::NoMore => put_five(rt, 0, 0, 0, 0, 0),
+        Found::NoField => put_five(rt, 14, 0, 0, 0, 0),
+        Found::PastField => put_five(rt, 17, 0, 0, 0, 0),
+        Found::Short(at) => put_five(rt, 15, 0, 0, at, 0),
+        Found::WrongLength(at) => put_five(rt, 16, 0, 0, at, 0),
     }
 }
 
-pub(crate) fn answer_unit(input: &[u8]) {
+pub(crate) fn answer_unit(rt: &(impl Print + Eprint), input: &[u8]) {
     match field::unit_at(cases::rest(input, PLACE), place_of(input)) {
-        AnyUnit::Whole { id, length, after } => put_five(0, id, length, 0, after),
-        AnyUnit::End => put_five(0, 0, 0, 0, 0),
-        AnyUnit::NoField => put_five(14, 0, 0, 0, 0),
-        AnyUnit::PastField => put_five(17, 0, 0, 0, 0),
-        AnyUnit::Short(at) => put_five(15, 0, 0, at, 0),
-        AnyUnit::WrongLength(at) => put_five(16, 0, 0, at, 0),
+        AnyUnit::Whole { id, length, after } => put_five(rt, 0, id, length, 0, after),
+        AnyUnit::End => put_five(rt, 0, 0, 0, 0, 0),
+        AnyUnit::NoField => put_five(rt, 14, 0, 0, 0, 0),
+        AnyUnit::PastField => put_five(rt, 17, 0, 0, 0, 0),
+        AnyUnit::Short(at) => put_five(rt, 15, 0, 0, at, 0),
+        AnyUnit::WrongLength(at) => put_five(rt, 16, 0, 0, at, 0),
     }
 }

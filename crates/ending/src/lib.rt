@@ -7,77 +7,84 @@ ghost use Rattle.tally.specs.Tally.{share_text};
 use packet::LINE_LENGTH;
 use watch::Watch;
 
-fn complain_of(count: u64, one: &[u8], more: &[u8]) {
-    console::complain_number(count);
+fn complain_of(rt: &impl Eprint, count: u64, one: &[u8], more: &[u8]) {
+    console::complain_number(rt, count);
     if count == 1 {
-        console::complain(one);
+        console::complain(rt, one);
     } else {
-        console::complain(more);
+        console::complain(rt, more);
     }
 }
 
-fn complain_refused(count: u64, by: &[u8]) {
+fn complain_refused(rt: &impl Eprint, count: u64, by: &[u8]) {
     if count > 0 {
-        console::complain(b", ");
-        console::complain_number(count);
-        console::complain(by);
+        console::complain(rt, b", ");
+        console::complain_number(rt, count);
+        console::complain(rt, by);
     }
 }
 
 // How many lines there were, and how many were refused. 12 and 18 never arise here.
-fn complain_counts(watch: Watch) {
-    complain_of(watch.lines, b" line", b" lines");
+fn complain_counts(rt: &impl Eprint, watch: Watch) {
+    complain_of(rt, watch.lines, b" line", b" lines");
     if watch.by10 == 0 {
         if watch.by11 == 0 {
-            console::complain(b", none refused");
+            console::complain(rt, b", none refused");
         }
     }
-    complain_refused(watch.by11, b" refused by 11");
-    complain_refused(watch.by10, b" refused by 10");
-    console::complain(b"\n");
+    complain_refused(rt, watch.by11, b" refused by 11");
+    complain_refused(rt, watch.by10, b" refused by 10");
+    console::complain(rt, b"\n");
     if watch.by11 > watch.lines / 2 {
         console::complain(
+            rt,
             b"most lines are refused by 11: the bytes may be in another order, or the recording of another kind\n",
         );
     }
 }
 
-fn complain_page(argument: &[u8], what: &[u8]) {
-    console::complain(b"page ");
-    console::complain(argument);
-    console::complain(what);
+fn complain_page(rt: &impl Eprint, argument: &[u8], what: &[u8]) {
+    console::complain(rt, b"page ");
+    console::complain(rt, argument);
+    console::complain(rt, what);
 }
 
 // Writes the last line. The watch is there for the promise alone: that the text says how many bytes were mended, and in how many of the lines.
-fn write_share(text: &[u8], watch: Watch)
+fn write_share(rt: &impl Eprint, text: &[u8], watch: Watch)
     requires { text.now ≡ share_text watch.mended watch.mended_lines watch.lines }
 {
-    console::complain(text);
+    console::complain(rt, text);
 }
 
-fn complain_share(watch: Watch) {
+fn complain_share(rt: &impl Eprint, watch: Watch) {
     let share = announcing::share_of(watch);
     let bytes = share.bytes;
-    write_share(&bytes[..share.used], watch);
+    write_share(rt, &bytes[..share.used], watch);
 }
 
 // All of it, for a page that was asked for by an argument: `part` is how many bytes the last line has, where it is no whole one.
-pub fn complain_at_end(watch: Watch, is_open: bool, part: usize, argument: &[u8]) {
+pub fn complain_at_end(
+    rt: &impl Eprint,
+    watch: Watch,
+    is_open: bool,
+    part: usize,
+    argument: &[u8],
+) {
     if watch.lines == 0 {
-        console::complain(b"no lines on standard input\n");
+        console::complain(rt, b"no lines on standard input\n");
         return;
     }
     if part > 0 {
-        console::complain(b"the last line has ");
-        complain_of(part as u64, b" byte and not ", b" bytes and not ");
-        console::complain_number(LINE_LENGTH as u64);
-        console::complain(b"\n");
+        console::complain(rt, b"the last line has ");
+        complain_of(rt, part as u64, b" byte and not ", b" bytes and not ");
+        console::complain_number(rt, LINE_LENGTH as u64);
+        console::complain(rt, b"\n");
     }
-    complain_counts(watch);
+    complain_counts(rt, watch);
     if is_open {
-        complain_page(argument, b" was still open at the end\n");
+        complain_page(rt, argument, b" was still open at the end\n");
     } else if watch.closed == 0 {
-        complain_page(argument, b" never came\n");
+        complain_page(rt, argument, b" never came\n");
     }
-    complain_share(watch);
+    complain_share(rt, watch);
 }

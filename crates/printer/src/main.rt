@@ -11,16 +11,16 @@ use page::{RECORD_LENGTH, ReadAnswer};
 const LIMIT: usize = RECORD_LENGTH + 1;
 
 // Prints a text, and answers how many bytes that are. The record is there for the promise alone: that the text is all that is to be printed for it.
-fn print(text: &[u8], record: &[u8]) -> usize
+fn print(rt: &(impl Print + Eprint), text: &[u8], record: &[u8]) -> usize
     requires { text.now ≡ output «record».now }
     ensures { result ≡ length text.now }
 {
-    console::say(text);
+    console::say(rt, text);
     text.len()
 }
 
 // Prints all that is to be printed for a record, and answers how many bytes that are.
-fn print_record(record: &[u8]) -> usize
+fn print_record(rt: &(impl Print + Eprint), record: &[u8]) -> usize
     ensures { result ≡ length (output «record».now) }
 {
     let read = page::read_record(record);
@@ -32,17 +32,17 @@ fn print_record(record: &[u8]) -> usize
         ReadAnswer::Read => {
             let printed = printing::printed_page(&characters);
             let text = printed.text;
-            print(&text, record)
+            print(rt, &text, record)
         }
-        ReadAnswer::WrongLength => print(b"refused 20\n", record),
-        ReadAnswer::WrongRowCode => print(b"refused 21\n", record),
-        ReadAnswer::BadDigit => print(b"refused 22\n", record),
-        ReadAnswer::UnlawfulCells => print(b"refused 23\n", record),
+        ReadAnswer::WrongLength => print(rt, b"refused 20\n", record),
+        ReadAnswer::WrongRowCode => print(rt, b"refused 21\n", record),
+        ReadAnswer::BadDigit => print(rt, b"refused 22\n", record),
+        ReadAnswer::UnlawfulCells => print(rt, b"refused 23\n", record),
     }
 }
 
-fn main() {
+fn main(rt: HostRuntime) {
     let mut input = [0u8; LIMIT];
-    let count = console::read_all(&mut input);
-    print_record(&input[..count]);
+    let count = console::read_all(&rt, &mut input);
+    print_record(&rt, &input[..count]);
 }

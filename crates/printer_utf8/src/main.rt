@@ -16,20 +16,20 @@ const LIMIT: usize = RECORD_LENGTH + 1;
 const ENGLISH_LINE: usize = STAND_IN + 1;
 
 // Prints a text, and answers how many bytes that are. The record is there for the promise alone: that the text is all that is to be printed for it.
-fn print(text: &[u8], record: &[u8]) -> usize
+fn print(rt: &(impl Print + Eprint), text: &[u8], record: &[u8]) -> usize
     requires { text.now ≡ output «record».now }
     ensures { result ≡ length text.now }
 {
-    console::say(text);
+    console::say(rt, text);
     text.len()
 }
 
 // Says which value has no set, and answers how many bytes that are. The record is there for the promise alone.
-fn complain(text: &[u8], record: &[u8]) -> usize
+fn complain(rt: &impl Eprint, text: &[u8], record: &[u8]) -> usize
     requires { text.now ≡ complaint «record».now }
     ensures { result ≡ length text.now }
 {
-    console::complain(text);
+    console::complain(rt, text);
     text.len()
 }
 
@@ -43,19 +43,19 @@ fn english_line(control: u16) -> [u8; ENGLISH_LINE]
 }
 
 // Says where English stands in, and answers how many bytes that are.
-fn say_letters(english: bool, control: u16, record: &[u8]) -> usize
+fn say_letters(rt: &impl Eprint, english: bool, control: u16, record: &[u8]) -> usize
     requires { cond english (english_line control) [] ≡ complaint «record».now }
     ensures { result ≡ length (cond english (english_line control) []) }
 {
     if english {
         let line = english_line(control);
-        return complain(&line, record);
+        return complain(rt, &line, record);
     }
     0
 }
 
 // What is said of the letters goes first, so that it is known before the page is read. Answers how many bytes both are.
-fn print_page(page: Page, record: &[u8]) -> usize
+fn print_page(rt: &(impl Print + Eprint), page: Page, record: &[u8]) -> usize
     requires { (page ≡ page_read «record».now) × (number_of «record».now ≡ some 0) }
     ensures { result ≡ written «record».now }
 {
@@ -64,29 +64,29 @@ fn print_page(page: Page, record: &[u8]) -> usize
     let header = page.header;
     let control = header.control;
     let printed = printing::utf8_page(&characters, control);
-    let said = say_letters(printed.english, control, record);
+    let said = say_letters(rt, printed.english, control, record);
     let text = printed.text;
-    said + print(&text[..printed.used], record)
+    said + print(rt, &text[..printed.used], record)
 }
 
 // Writes all that is to be written for a record, and answers how many bytes that are.
-fn print_record(record: &[u8]) -> usize
+fn print_record(rt: &(impl Print + Eprint), record: &[u8]) -> usize
     ensures { result ≡ written «record».now }
 {
     let read = page::read_record(record);
     let answer = read.answer;
     let page = read.page;
     match answer {
-        ReadAnswer::Read => print_page(page, record),
-        ReadAnswer::WrongLength => print(b"refused 20\n", record),
-        ReadAnswer::WrongRowCode => print(b"refused 21\n", record),
-        ReadAnswer::BadDigit => print(b"refused 22\n", record),
-        ReadAnswer::UnlawfulCells => print(b"refused 23\n", record),
+        ReadAnswer::Read => print_page(rt, page, record),
+        ReadAnswer::WrongLength => print(rt, b"refused 20\n", record),
+        ReadAnswer::WrongRowCode => print(rt, b"refused 21\n", record),
+        ReadAnswer::BadDigit => print(rt, b"refused 22\n", record),
+        ReadAnswer::UnlawfulCells => print(rt, b"refused 23\n", record),
     }
 }
 
-fn main() {
+fn main(rt: HostRuntime) {
     let mut input = [0u8; LIMIT];
-    let count = console::read_all(&mut input);
-    print_record(&input[..count]);
+    let count = console::read_all(&rt, &mut input);
+    print_record(&rt, &input[..count]);
 }

@@ -13,6 +13,7 @@ use console::Got;
 use packet::LINE_LENGTH;
 use page::RECORD_LENGTH;
 use receiver::{Receiver, Selected, Selection};
+use std::env::{Env, FillError};
 use watch::Watch;
 
 // So many lines are read at once, and there is room for what is said of them.
@@ -59,14 +60,14 @@ struct Turn {
 }
 
 // Writes what is said of some lines. The state and the lines are there for the promise alone: that the text is all that is said of them.
-fn write_said(text: &[u8], state: State, lines: &[u8]) -> bool
+fn write_said(rt: &(impl Print + Eprint), text: &[u8], state: State, lines: &[u8]) -> bool
     requires { text.now ≡ (said (fed_from state) lines.now).text }
 {
-    console::say(text)
+    console::say(rt, text)
 }
 
 // Enters some lines, and says what closes.
-fn feed(state: State, lines: &[u8]) -> Fed
+fn feed(rt: &(impl Print + Eprint), state: State, lines: &[u8]) -> Fed
     requires { (length state.«record» ≡ record_length) × (length lines.now ≤ chunk_size) }
     ensures feeds { Feeds (said (fed_from state) lines.now) result.state }
     ensures record_len { length result.state.«record» ≡ record_length }
@@ -77,7 +78,7 @@ fn feed(state: State, lines: &[u8]) -> Fed
     let mut room = [0u8; ROOM];
     let announced = announcing::announce(receiver, watch, lines, &mut record, &mut room);
     let length = announced.length;
-    let written = write_said(&room[..length], state, lines);
+    let written = write_said(rt, &room[..length], state, lines);
     let next = announced.receiver;
     let more = announced.watch;
     let after = State {
@@ -108,14 +109,14 @@ fn next_after(written: bool) -> Next {
 }
 
 // Feeds the whole lines among the chunk's first bytes, and carries the part behind them over.
-fn feed_whole(state: State, chunk: &mut [u8], full: usize) -> Turn
+fn feed_whole(rt: &(impl Print + Eprint), state: State, chunk: &mut [u8], full: usize) -> Turn
     requires { Kept state chunk.old × (full ≤ chunk_size) }
     ensures turned { Turned state (take full chunk.old) result chunk.new }
     ensures carried { Carried result chunk.new }
 {
     let part = full % LINE_LENGTH;
     let whole = full - part;
-    let fed = feed(state, &chunk[..whole]);
+    let fed = feed(rt, state, &chunk[..whole]);
     carry(chunk, whole, part);
     let after = fed.state;
     let next = next_after(fed.written);
@@ -127,15 +128,15 @@ fn feed_whole(state: State, chunk: &mut [u8], full: usize) -> Turn
 }
 
 // Reads some bytes behind the part of a line that is there, and feeds the whole lines. Nothing of the part is lost: what is fed and carried begins with it.
-fn one_turn(turn: Turn, chunk: &mut [u8]) -> Turn
+fn one_turn(rt: &(impl Input + Print + Eprint), turn: Turn, chunk: &mut [u8]) -> Turn
     requires { Carried turn chunk.old }
     ensures comes { Comes turn.state (take turn.part chunk.old) result chunk.new }
     ensures carried { Carried result chunk.new }
 {
     let state = turn.state;
     let part = turn.part;
-    match console::read_behind(chunk, part) {
-        Got::Bytes(more) => feed_whole(state, chunk, part + more),
+    match console::read_behind(rt, chunk, part) {
+        Got::Bytes(more) => feed_whole(rt, state, chunk, part + more),
         Got::End => Turn {
             state,
             part,
@@ -162,7 +163,7 @@ fn turns_left(turns: u64, next: Next) -> u64
 }
 
 // Reads and feeds until the input ends or fails, or a write fails.
-fn read_lines(state: State, chunk: &mut [u8]) -> Turn
+fn read_lines(rt: &(impl Input + Print + Eprint), state: State, chunk: &mut [u8]) -> Turn
     requires { Kept state chunk.old }
     ensures { Carried result chunk.new }
 {
@@ -175,7 +176,7 @@ fn read_lines(state: State, chunk: &mut [u8]) -> Turn
     // More turns than any recording has.
     let mut turns: u64 = 18446744073709551615;
     while turns > 0 {
-        let after = one_turn(turn, chunk);
+        let after = one_turn(rt, turn, chunk);
         turn = after;
         let next = after.next;
         turns = turns_left(turns, next);
@@ -183,7 +184,7 @@ fn read_lines(state: State, chunk: &mut [u8]) -> Turn
     turn
 }
 
-fn receive(receiver: Receiver, argument: &[u8]) {
+fn receive(rt: &(impl Input + Print + Eprint), receiver: Receiver, argument: &[u8]) {
     let watch = Watch::new();
     let record = [0u8; RECORD_LENGTH];
     let state = State {
@@ -192,45 +193,49 @@ fn receive(receiver: Receiver, argument: &[u8]) {
         record,
     };
     let mut chunk = [0u8; CHUNK];
-    let turn = read_lines(state, &mut chunk);
+    let turn = read_lines(rt, state, &mut chunk);
     let part = turn.part;
     let next = turn.next;
     let before = turn.state;
     if let Next::Stop = next {
         return;
     }
-    let last = feed(before, &chunk[..part]);
+    let last = feed(rt, before, &chunk[..part]);
     let after = last.state;
     let watched = after.watch;
     let ended = after.receiver;
-    ending::complain_at_end(watched, ended.open, part, argument);
+    ending::complain_at_end(rt, watched, ended.open, part, argument);
 }
 
-fn complain_of_argument() {
-    console::complain(b"not a page number: give 100 to 899, or 100/1234 with a time\n");
+fn complain_of_argument(rt: &impl Eprint) {
+    console::complain(
+        rt,
+        b"not a page number: give 100 to 899, or 100/1234 with a time\n",
+    );
 }
 
-fn start(selection: Selection, argument: &[u8]) {
+fn start(rt: &(impl Input + Print + Eprint), selection: Selection, argument: &[u8]) {
     let new = Receiver::new(selection);
     let receiver = new.receiver;
     let answer = new.answer;
     match answer {
-        Selected::Ready => receive(receiver, argument),
-        Selected::OutOfRange => complain_of_argument(),
+        Selected::Ready => receive(rt, receiver, argument),
+        Selected::OutOfRange => complain_of_argument(rt),
     }
 }
 
-fn main() {
-    if os::arg_count() > 2 {
+fn main(rt: HostRuntime) {
+    let Err(FillError::NotPresent) = rt.arg(2, &mut []) else {
         console::complain(
+            &rt,
             b"one argument alone: give a page number, 100 to 899, or 100/1234 with a time\n",
         );
         return;
-    }
+    };
     let mut argument = [0u8; ARGUMENT];
-    let count = os::arg(1, &mut argument);
+    let count = rt.arg(1, &mut argument).unwrap_or(0);
     match asking::page_asked(&argument[..count]) {
-        Asked::Page(selection) => start(selection, &argument[..count]),
-        Asked::NoPage => complain_of_argument(),
+        Asked::Page(selection) => start(&rt, selection, &argument[..count]),
+        Asked::NoPage => complain_of_argument(&rt),
     }
 }

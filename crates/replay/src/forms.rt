@@ -93,16 +93,16 @@ pub(crate) fn page_of(form: &[u8]) -> Page {
     }
 }
 
-fn put_selection(selection: Selection) {
+fn put_selection(rt: &(impl Print + Eprint), selection: Selection) {
     let page = [selection.magazine, selection.tens, selection.units];
-    cases::put(&page);
+    cases::put(rt, &page);
     let when = selection.when;
-    put_when(when);
+    put_when(rt, when);
 }
 
-fn put_when(when: When) {
+fn put_when(rt: &(impl Print + Eprint), when: When) {
     let bytes = when_bytes(when);
-    cases::put(&bytes);
+    cases::put(rt, &bytes);
 }
 
 fn when_bytes(when: When) -> [u8; 5] {
@@ -118,7 +118,7 @@ fn when_bytes(when: When) -> [u8; 5] {
 }
 
 // The flags, and the header.
-fn put_header(first: bool, second: bool, header: Header) {
+fn put_header(rt: &(impl Print + Eprint), first: bool, second: bool, header: Header) {
     let bytes = [
         first as u8,
         second as u8,
@@ -131,30 +131,30 @@ fn put_header(first: bool, second: bool, header: Header) {
         (header.control / 256) as u8,
         (header.control % 256) as u8,
     ];
-    cases::put(&bytes);
+    cases::put(rt, &bytes);
 }
 
-fn put_cells(cells: Cells) {
+fn put_cells(rt: &(impl Print + Eprint), cells: Cells) {
     let characters = cells.characters;
-    cases::put(&characters);
+    cases::put(rt, &characters);
     let marks = cells.marks;
-    cases::put(&marks);
+    cases::put(rt, &marks);
 }
 
-pub(crate) fn put_receiver(receiver: Receiver) {
+pub(crate) fn put_receiver(rt: &(impl Print + Eprint), receiver: Receiver) {
     let selection = receiver.selection;
-    put_selection(selection);
+    put_selection(rt, selection);
     let header = receiver.header;
-    put_header(receiver.open, receiver.doubt, header);
+    put_header(rt, receiver.open, receiver.doubt, header);
     let cells = receiver.cells;
-    put_cells(cells);
+    put_cells(rt, cells);
 }
 
-pub(crate) fn put_page(page: Page) {
+pub(crate) fn put_page(rt: &(impl Print + Eprint), page: Page) {
     let magazine = [page.magazine, 0, 0, 0, 0, 0, 0, 0];
-    cases::put(&magazine);
+    cases::put(rt, &magazine);
     let header = page.header;
-    put_header(page.clean, false, header);
+    put_header(rt, page.clean, false, header);
     let cells = page.cells;
-    put_cells(cells);
+    put_cells(rt, cells);
 }

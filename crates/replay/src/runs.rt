@@ -8,19 +8,19 @@ const STEP: usize = 3;
 // The kind that is said where a recording came to its end.
 const AT_END: u8 = 0xFF;
 
-fn put_selected(answer: Selected) {
+fn put_selected(rt: &(impl Print + Eprint), answer: Selected) {
     match answer {
-        Selected::Ready => cases::put_byte(0),
-        Selected::OutOfRange => cases::put_byte(13),
+        Selected::Ready => cases::put_byte(rt, 0),
+        Selected::OutOfRange => cases::put_byte(rt, 13),
     }
 }
 
-pub(crate) fn answer_selection(input: &[u8]) {
+pub(crate) fn answer_selection(rt: &(impl Print + Eprint), input: &[u8]) {
     let new = Receiver::new(forms::selection_of(input));
     let answer = new.answer;
-    put_selected(answer);
+    put_selected(rt, answer);
     let receiver = new.receiver;
-    forms::put_receiver(receiver);
+    forms::put_receiver(rt, receiver);
 }
 
 fn closing_number(closing: Closing) -> u8 {
@@ -46,9 +46,9 @@ fn answer_bytes(answer: Answer) -> [u8; 5] {
     }
 }
 
-fn put_answer(answer: Answer) {
+fn put_answer(rt: &(impl Print + Eprint), answer: Answer) {
     let bytes = answer_bytes(answer);
-    cases::put(&bytes);
+    cases::put(rt, &bytes);
 }
 
 fn last_answer(played: Played) -> Answer {
@@ -63,23 +63,28 @@ fn last_answer(played: Played) -> Answer {
     }
 }
 
-fn put_count(count: usize) {
+fn put_count(rt: &(impl Print + Eprint), count: usize) {
     let bytes = [(count / 256 % 256) as u8, (count % 256) as u8];
-    cases::put(&bytes);
+    cases::put(rt, &bytes);
 }
 
-fn put_mended(mended: Mended) {
-    put_count(mended.bytes);
-    put_count(mended.lines);
-    put_count(mended.own);
+fn put_mended(rt: &(impl Print + Eprint), mended: Mended) {
+    put_count(rt, mended.bytes);
+    put_count(rt, mended.lines);
+    put_count(rt, mended.own);
 }
 
 // A recording: how many lines were used, the bytes mended in them, and the answer that it stopped at.
-fn play(receiver: Receiver, bytes: &[u8], record: &mut [u8]) -> Stepped {
+fn play(
+    rt: &(impl Print + Eprint),
+    receiver: Receiver,
+    bytes: &[u8],
+    record: &mut [u8],
+) -> Stepped {
     let recorded = receiver::take_recording(receiver, bytes, record);
-    put_count(recorded.used);
+    put_count(rt, recorded.used);
     let mended = recorded.mended;
-    put_mended(mended);
+    put_mended(rt, mended);
     let played = recorded.answer;
     let answer = last_answer(played);
     let after = recorded.receiver;
@@ -89,39 +94,56 @@ fn play(receiver: Receiver, bytes: &[u8], record: &mut [u8]) -> Stepped {
     }
 }
 
-fn take(entry: u8, receiver: Receiver, bytes: &[u8], record: &mut [u8]) -> Stepped {
+fn take(
+    rt: &(impl Print + Eprint),
+    entry: u8,
+    receiver: Receiver,
+    bytes: &[u8],
+    record: &mut [u8],
+) -> Stepped {
     match entry {
         b'm' => lent::take_line_through(receiver, bytes, record),
         b'p' => receiver::take_packet(receiver, bytes, record),
-        b'r' => play(receiver, bytes, record),
+        b'r' => play(rt, receiver, bytes, record),
         _ => receiver::take_line(receiver, bytes, record),
     }
 }
 
 // One step: its answer, and the record after it.
-fn take_step(receiver: Receiver, step: &[u8], size: usize, record: &mut [u8]) -> Receiver {
+fn take_step(
+    rt: &(impl Print + Eprint),
+    receiver: Receiver,
+    step: &[u8],
+    size: usize,
+    record: &mut [u8],
+) -> Receiver {
     let bytes = cases::start(cases::rest(step, STEP), size);
-    let stepped = take(cases::byte_at(step, 0), receiver, bytes, record);
+    let stepped = take(rt, cases::byte_at(step, 0), receiver, bytes, record);
     let answer = stepped.answer;
-    put_answer(answer);
-    cases::put(record);
+    put_answer(rt, answer);
+    cases::put(rt, record);
     stepped.receiver
 }
 
-fn take_each(receiver: Receiver, steps: &[u8], record: &mut [u8]) -> Receiver {
+fn take_each(
+    rt: &(impl Print + Eprint),
+    receiver: Receiver,
+    steps: &[u8],
+    record: &mut [u8],
+) -> Receiver {
     let mut current = receiver;
     let mut place = 0;
     while place < steps.len() {
         let step = cases::rest(steps, place);
         let size = cases::double(cases::rest(step, 1)) as usize;
-        let next = take_step(current, step, size, record);
+        let next = take_step(rt, current, step, size, record);
         current = next;
         place = place + STEP + size;
     }
     current
 }
 
-pub(crate) fn answer_run(input: &[u8], record: &mut [u8]) {
+pub(crate) fn answer_run(rt: &(impl Print + Eprint), input: &[u8], record: &mut [u8]) {
     let steps = cases::rest(input, forms::RECEIVER_LENGTH);
-    forms::put_receiver(take_each(forms::receiver_of(input), steps, record));
+    forms::put_receiver(rt, take_each(rt, forms::receiver_of(input), steps, record));
 }

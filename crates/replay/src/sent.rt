@@ -26,9 +26,9 @@ fn sent_bytes(sent: Sent) -> [u8; 2] {
     }
 }
 
-pub(crate) fn answer_sent(input: &[u8], room: &mut [u8]) {
+pub(crate) fn answer_sent(rt: &(impl Print + Eprint), input: &[u8], room: &mut [u8]) {
     let sent = sending::send_page(cases::rest(input, CHOICES), wanted_of(input), room);
     let bytes = sent_bytes(sent);
-    cases::put(&bytes);
-    cases::put(room);
+    cases::put(rt, &bytes);
+    cases::put(rt, room);
 }

@@ -10,6 +10,7 @@ use choosing::{CHOICES, ChoiceAnswer};
 use packet::LINE_LENGTH;
 use page::RECORD_LENGTH;
 use sending::{LONGEST, Sent};
+use std::env::{Env, FillError};
 
 // One byte more than a record has, by which a longer one is known.
 const LIMIT: usize = RECORD_LENGTH + 1;
@@ -19,29 +20,35 @@ const ARGUMENT: usize = 256;
 
 // Writes the lines, and behind them the closing one, and answers how many bytes that are. The record and the rows are there for the promise alone: that these are all
 // that is to be written for them.
-fn print(lines: &[u8], closing: &[u8], record: &[u8], wanted: [bool; CHOICES]) -> usize
+fn print(
+    rt: &(impl Print + Eprint),
+    lines: &[u8],
+    closing: &[u8],
+    record: &[u8],
+    wanted: [bool; CHOICES],
+) -> usize
     requires { (lines.now ++ closing.now ≡ output «record».now wanted) × (length lines.now ≤ length room) × (length closing.now ≡ line_length) }
     ensures { result ≡ length (output «record».now wanted) }
 {
     let size = lines.len() + closing.len();
-    if !console::say(lines) {
+    if !console::say(rt, lines) {
         return size;
     }
-    console::say(closing);
+    console::say(rt, closing);
     size
 }
 
 // Says a refusal: nothing is written then. The record and the rows are there for the promise alone.
-fn refuse(text: &[u8], record: &[u8], wanted: [bool; CHOICES]) -> usize
+fn refuse(rt: &impl Eprint, text: &[u8], record: &[u8], wanted: [bool; CHOICES]) -> usize
     requires { (text.now ≡ complaint «record».now wanted) × (output «record».now wanted ≡ []) }
     ensures { result ≡ length (output «record».now wanted) }
 {
-    console::complain(text);
+    console::complain(rt, text);
     0
 }
 
 // Sends the page of a record, and answers how many bytes were to be written.
-fn send(record: &[u8], wanted: [bool; CHOICES]) -> usize
+fn send(rt: &(impl Print + Eprint), record: &[u8], wanted: [bool; CHOICES]) -> usize
     ensures { result ≡ length (output «record».now wanted) }
 {
     let mut room = [0u8; LONGEST];
@@ -50,41 +57,48 @@ fn send(record: &[u8], wanted: [bool; CHOICES]) -> usize
             let read = page::read_record(record);
             let page = read.page;
             let closing = sending::closing_line(page);
-            print(&room[..count * LINE_LENGTH], &closing, record, wanted)
+            print(rt, &room[..count * LINE_LENGTH], &closing, record, wanted)
         }
-        Sent::WrongLength => refuse(b"refused 20\n", record, wanted),
-        Sent::WrongRowCode => refuse(b"refused 21\n", record, wanted),
-        Sent::BadDigit => refuse(b"refused 22\n", record, wanted),
-        Sent::UnlawfulCells => refuse(b"refused 23\n", record, wanted),
-        Sent::ShortRoom => refuse(b"refused 30\n", record, wanted),
+        Sent::WrongLength => refuse(rt, b"refused 20\n", record, wanted),
+        Sent::WrongRowCode => refuse(rt, b"refused 21\n", record, wanted),
+        Sent::BadDigit => refuse(rt, b"refused 22\n", record, wanted),
+        Sent::UnlawfulCells => refuse(rt, b"refused 23\n", record, wanted),
+        Sent::ShortRoom => refuse(rt, b"refused 30\n", record, wanted),
     }
 }
 
 // Reads the record, and sends it.
-fn send_input(wanted: [bool; CHOICES]) {
+fn send_input(rt: &(impl Input + Print + Eprint), wanted: [bool; CHOICES]) {
     let mut input = [0u8; LIMIT];
-    let count = console::read_all(&mut input);
-    send(&input[..count], wanted);
+    let count = console::read_all(rt, &mut input);
+    send(rt, &input[..count], wanted);
 }
 
-fn main() {
-    if os::arg_count() > 2 {
-        console::complain(b"one argument alone: give the rows, as 1-5,20, or nothing for all\n");
-        return;
-    }
-    if os::arg_count() < 2 {
-        send_input([true; CHOICES]);
-        return;
-    }
-    let mut argument = [0u8; ARGUMENT];
-    let count = os::arg(1, &mut argument);
-    let chosen = choosing::rows_asked(&argument[..count]);
+fn send_chosen(rt: &(impl Input + Print + Eprint), argument: &[u8]) {
+    let chosen = choosing::rows_asked(argument);
     let answer = chosen.answer;
     let wanted = chosen.wanted;
     match answer {
-        ChoiceAnswer::Rows => send_input(wanted),
+        ChoiceAnswer::Rows => send_input(rt, wanted),
         ChoiceAnswer::NoRows => console::complain(
+            rt,
             b"not rows: give some of 1 to 24, as 1-5,20, or nothing for all\n",
         ),
+    }
+}
+
+fn main(rt: HostRuntime) {
+    let Err(FillError::NotPresent) = rt.arg(2, &mut []) else {
+        console::complain(
+            &rt,
+            b"one argument alone: give the rows, as 1-5,20, or nothing for all\n",
+        );
+        return;
+    };
+    let mut argument = [0u8; ARGUMENT];
+    match rt.arg(1, &mut argument) {
+        Ok(count) => send_chosen(&rt, &argument[..count]),
+        Err(FillError::TooLong) => send_chosen(&rt, b""),
+        Err(FillError::NotPresent) => send_input(&rt, [true; CHOICES]),
     }
 }

@@ -19,17 +19,17 @@ struct Printed {
 
 // Prints a line. The field and how much of its listing was printed are there for the promise alone: that the line is the part of the listing that
 // comes next.
-fn print(line: Line, field: &[u8], printed: usize) -> bool
+fn print(rt: &(impl Print + Eprint), line: Line, field: &[u8], printed: usize) -> bool
     requires used_in_bounds { line.used ≤ length line.bytes }
     requires bytes_value { take line.used line.bytes ≡ take line.used (drop printed (listed field.now)) }
 {
     let bytes = line.bytes;
     let used = line.used;
-    console::say(&bytes[..used])
+    console::say(rt, &bytes[..used])
 }
 
 // Prints the whole listing of a field, unless a write fails.
-fn list(field: &[u8]) -> Printed
+fn list(rt: &(impl Print + Eprint), field: &[u8]) -> Printed
     requires { length field.now ≤ most + 1 }
     ensures { result.all ≡ true → result.count ≡ length (listed field.now) }
 {
@@ -38,7 +38,7 @@ fn list(field: &[u8]) -> Printed
     loop {
         let step = listing::line_at(field, place);
         let line = step.line;
-        if !print(line, field, count) {
+        if !print(rt, line, field, count) {
             return Printed { count, all: false };
         }
         count += line.used;
@@ -50,8 +50,8 @@ fn list(field: &[u8]) -> Printed
     }
 }
 
-fn main() {
+fn main(rt: HostRuntime) {
     let mut input = [0u8; LIMIT];
-    let count = console::read_all(&mut input);
-    list(&input[..count]);
+    let count = console::read_all(&rt, &mut input);
+    list(&rt, &input[..count]);
 }
