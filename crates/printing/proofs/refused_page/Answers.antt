@@ -2,12 +2,8 @@
 use mathlib.Core.Path.{refl}
 use Rattle.display.specs.Pages.{display_answer_paper}
 use Rattle.printing.specs.Pages.{page_paper}
-use Rattle.printing.proofs.refused_page.Statement.{statement}
-use Rattle.printing.proofs.refused_page.Tie as tie
+use Rattle.printing.proofs.refused_page.Goals as goal
 
-returns : tie.Need-returns
+pub returns : goal.returns
 unfolding page_paper display_answer_paper
 returns c = refl
-
-pub refused-page-spec : {M : Type 1} → statement M
-refused-page-spec = tie.close (tie.spec returns)
