@@ -1,0 +1,17 @@
+use mathlib.Core.Path.{◌≡◌}
+use Prim.Native.Nat.{ℕ, ◌≤◌, ◌<◌, ◌-◌}
+use native.Mathlib.Omega.{arith}
+use borrow.Author.Rules.{rules}
+use lib.ListN.{length, get_or, length-set}
+use Rattle.laws.proofs.Lists.{stored_more}
+use Rattle.grid.specs.Grid.{cell_count}
+use Rattle.announcing.specs.Told.{sent_now}
+use Rattle.announcing.proofs.Fresh.{fresh_is}
+use Rattle.announcing.proofs.fresh_characters.Given as goal
+
+abbrev pub invariant-loop-i : goal.invariant-loop-i
+invariant-loop-i l =
+    (l.i ≤ cell_count) × (length l.sent ≡ cell_count) × ((k : ℕ) → k < l.i → get_or l.sent k 0 ≡ sent_now (get_or l.characters k 0) (get_or l.marks k 0))
+
+abbrev pub decreases-loop-i : goal.decreases-loop-i
+decreases-loop-i l = cell_count - l.i

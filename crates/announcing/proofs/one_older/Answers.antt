@@ -1,0 +1,24 @@
+-- `announcing::one_older` meets its contract. The loop's invariant: one is older where one was so far, or where one is from here on.
+use mathlib.Core.Path.{◌≡◌, refl, sym, ◌∙◌, ap}
+use mathlib.Core.Bool.{Bool, ◌||◌, or-false}
+use Prim.Native.Nat.{◌≤◌, ◌-◌}
+use borrow.Author.Rules.{rules}
+use lib.ListN.{length, drop, drop_of_length-le}
+use Rattle.announcing.specs.Told.{one_older}
+use Rattle.announcing.proofs.Fresh.{none_older, older_from}
+use Rattle.announcing.proofs.one_older.Goals as goal
+
+pub loop-i-init : goal.loop-i-init
+loop-i-init c = (search rules, refl)
+
+pub loop-i-preserved : goal.loop-i-preserved
+loop-i-preserved c =
+    let turn = c in
+    (search rules, older_from turn.loop-i.found turn.args.marks.now turn.loop-i.i (search rules) ∙ turn.loop-i.invariant.1)
+
+pub returns : goal.returns
+returns c =
+    let marks = c.args.marks.now in
+    let found = c.loop-i.found in
+    let none_left = ap one_older (drop_of_length-le marks {i = c.loop-i.i} (search rules)) ∙ none_older in
+    sym (or-false found) ∙ (ap (λ (b : Bool). found || b) (sym none_left) ∙ c.loop-i.invariant.1)

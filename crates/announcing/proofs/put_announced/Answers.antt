@@ -1,0 +1,72 @@
+-- `announcing::put_announced` meets its contract: by the word, nothing, a line, or a line and the page.
+use mathlib.Core.Path.{◌≡◌, refl, sym, ◌∙◌, ap, subst}
+use mathlib.Core.List.{List}
+use Prim.Native.Nat.{ℕ, ◌+◌, ◌≤◌}
+use native.Mathlib.Omega.{arith}
+use lib.ListN.{length, take}
+use Rattle.page.specs.Reading.{page_read}
+use Rattle.page.specs.Records.{record_length}
+use Rattle.page.specs.declared.Page.{Page}
+use Rattle.printing.specs.Letters.{utf8_page_size}
+use Rattle.heading.proofs.Words.{line_length_law}
+use Rattle.watch.specs.declared.Word.{Word}
+use Rattle.watch.specs.declared.Word.TheVariants as word
+use Rattle.announcing.specs.Private.{Printable}
+use Rattle.announcing.specs.Said.{left_out_size}
+use Rattle.announcing.specs.Told.{announced, page_line, page_said}
+use Rattle.announcing.proofs.Fresh.{printable_read}
+use Rattle.texts.proofs.Putting.{as_text, put_none, put_then, same_room}
+use borrow.Author.Rules.{rules}
+use Rattle.announcing.proofs.put_announced.Goals as goal
+use Rattle.announcing.proofs.put_announced.Goals.{After-put_line-line}
+
+-- what is said in the case of the word that was found
+by_word : (mended : ℕ) (lent : List ℕ) {which found : Word} → which ≡ found → {page : Page} → page ≡ page_read (take record_length lent)
+    → page_said found mended page ≡ announced which mended lent
+unfolding announced
+by_word mended lent {which} {found} e is = ap (page_said found mended) is ∙ ap (λ (w : Word). page_said w mended (page_read (take record_length lent))) (sym e)
+
+-- behind the line of a clean page there is room for its cells
+line-fits : (c : After-put_line-line)
+    → let a = c.args in
+    a.at + (length (page_line word.Clean a.mended c.page_in-page.result) + (left_out_size + utf8_page_size)) ≤ length a.room.now
+line-fits c =
+    let start = c in
+    let page = c.page_in-page.result in
+    let line = line_length_law word.Clean page.magazine page.header start.args.mended (omega arith) in
+    omega (arith, start.requires)
+
+pub put_cells-requires : goal.put_cells-requires
+put_cells-requires c =
+    let call = c.before.before.before.before.before in
+    let fits = line-fits (goal.at.put_cells-requires c).After-put_line-line in
+    let same = same_room call.put_line-line.ensures (omega arith) in
+    let ends = call.put_line-line.ensures.ends in
+    (omega arith, subst (λ (p : Page). Printable p.cells) (sym call.page_in-page.ensures) (printable_read _))
+
+pub returns-in-None : goal.returns-in-None
+unfolding page_said
+returns-in-None c =
+    let start = c in
+    as_text (put_none start.args.room.now start.args.at) (by_word _ _ c.in-None.is refl)
+
+pub returns-in-Clean : goal.returns-in-Clean
+unfolding page_said
+returns-in-Clean c =
+    let call = c.before.before.before.before.before.before.before.before in
+    let fits = line-fits (goal.at.returns-in-Clean c).After-put_line-line in
+    as_text (put_then call.put_line-line.ensures (omega arith) c.put_cells.ensures)
+    (by_word _ call.args.«record».now call.in-Clean.is
+    call.page_in-page.ensures)
+
+pub returns-in-Doubt : goal.returns-in-Doubt
+unfolding page_said
+returns-in-Doubt c =
+    let call = c in
+    as_text call.put_line.ensures (by_word _ _ call.in-Doubt.is call.page_in.ensures)
+
+pub returns-in-Missing : goal.returns-in-Missing
+unfolding page_said
+returns-in-Missing c =
+    let call = c in
+    as_text call.put_line-in-Missing.ensures (by_word _ _ call.in-Missing.is call.page_in-in-Missing.ensures)
