@@ -11,38 +11,34 @@ use Rattle.printing.proofs.Shown.{utf8-counted, utf8-is}
 use Rattle.announcing.specs.Told.{cells_text, fresh_characters, left_out_text}
 use Rattle.announcing.proofs.Lengths.{left_out_length}
 use Rattle.announcing.proofs.put_cells.Goals as goal
-use Rattle.announcing.proofs.put_cells.Goals.{After-utf8_page-page, Start}
-
--- where the function starts
-abbrev start_of : After-utf8_page-page → Start
-start_of c = c.before.before.before.before.before.before.before.before.before.before
+use Rattle.announcing.proofs.put_cells.Goals.{After-utf8_page-page}
 
 -- the page, which is never refused, and its text
 page_is : (c : After-utf8_page-page)
-    → utf8_paper c.utf8_page-page.result ≡ printed_utf8 (start_of c).args.control (fresh_characters (start_of c).args.cells)
+    → utf8_paper c.utf8_page-page.result ≡ printed_utf8 c.args.control (fresh_characters c.args.cells)
 page_is c =
-    c.utf8_page-page.ensures.result_value ∙ ap (printed_utf8 (start_of c).args.control) c.fresh_characters-sent.ensures
+    c.utf8_page-page.ensures.result_value ∙ ap (printed_utf8 c.args.control) c.fresh_characters-sent.ensures
 
 text-is : (c : After-utf8_page-page)
-    → take c.utf8_page-page.result.used c.utf8_page-page.result.text ≡ utf8_page_text (start_of c).args.control (fresh_characters (start_of c).args.cells)
-text-is c = let start = start_of c in utf8-is _ start.args.control (fresh_characters start.args.cells) start.pre.1.shown (page_is c)
+    → take c.utf8_page-page.result.used c.utf8_page-page.result.text ≡ utf8_page_text c.args.control (fresh_characters c.args.cells)
+text-is c = let start = c in utf8-is _ start.args.control (fresh_characters start.args.cells) start.requires.1.shown (page_is c)
 
 rows_fit : (c : After-utf8_page-page)
-    → (start_of c).args.at + length (left_out_text (start_of c).args.cells.marks) + utf8_page_size ≤ length (start_of c).args.room.now
+    → c.args.at + length (left_out_text c.args.cells.marks) + utf8_page_size ≤ length c.args.room.now
 rows_fit c =
-    let room = (start_of c).requires.0 in
-    let short = left_out_length (start_of c).args.cells.marks in
+    let room = c.requires.0 in
+    let short = left_out_length c.args.cells.marks in
     omega arith
 
 pub slice_bounds-put-end : goal.slice_bounds-put-end
 slice_bounds-put-end c =
-    let call = c.before.before.before in
-    let start = start_of (goal.at.slice_bounds-put-end c).After-utf8_page-page in
-    utf8-counted _ start.args.control (fresh_characters start.args.cells) start.pre.1.shown (page_is (goal.at.slice_bounds-put-end c).After-utf8_page-page)
+    let call = c in
+    let start = c in
+    utf8-counted _ start.args.control (fresh_characters start.args.cells) start.requires.1.shown (page_is (goal.at.slice_bounds-put-end c).After-utf8_page-page)
 
 pub put-requires : goal.put-requires
 put-requires c =
-    let call = c.before.before.before in
+    let call = c in
     let left_out = call.put_left_out-rows.ensures in
     let fits = rows_fit (goal.at.put-requires c).After-utf8_page-page in
     let same = same_room left_out (omega arith) in
@@ -54,8 +50,8 @@ put-requires c =
 pub returns : goal.returns
 unfolding cells_text
 returns c =
-    let call = c.before.before.before.before.before.before in
+    let call = c in
     let left_out = call.put_left_out-rows.ensures in
     let fits = rows_fit (goal.at.returns c).After-utf8_page-page in
     as_text (put_then left_out (omega arith) c.put.ensures)
-    (ap (λ (text : List ℕ). left_out_text (start_of (goal.at.returns c).After-utf8_page-page).args.cells.marks ++ text) (text-is (goal.at.returns c).After-utf8_page-page))
+    (ap (λ (text : List ℕ). left_out_text c.args.cells.marks ++ text) (text-is (goal.at.returns c).After-utf8_page-page))

@@ -13,30 +13,26 @@ use Rattle.announcing.proofs.Lengths.{older_length}
 use Rattle.texts.proofs.Putting.{as_text, put_none, put_then, same_room}
 use borrow.Author.Rules.{rules}
 use Rattle.announcing.proofs.put_left_out.Goals as goal
-use Rattle.announcing.proofs.put_left_out.Goals.{After-put_older_rows-numbers, Start}
-
--- where the function starts
-abbrev start_of : After-put_older_rows-numbers → Start
-start_of c = c.before.before.before.before.before.before.before.before.before.before.before
+use Rattle.announcing.proofs.put_left_out.Goals.{After-put_older_rows-numbers}
 
 -- the words and the numbers are put, and there is room for the line feed
 numbered : (c : After-put_older_rows-numbers)
-    → Puts (left_out_words ++ older_rows rows (start_of c).args.marks.now) (start_of c).args.room.now (start_of c).args.at c.put_older_rows-numbers.new.0
+    → Puts (left_out_words ++ older_rows rows c.args.marks.now) c.args.room.now c.args.at c.put_older_rows-numbers.new.room
     c.put_older_rows-numbers.result
 numbered c =
-    let room = (start_of c).requires.0 in
+    let room = c.requires.0 in
     put_then c.put-words.ensures (omega arith) c.put_older_rows-numbers.ensures
 
-numbers_fit : (c : After-put_older_rows-numbers) → (start_of c).args.at + length (left_out_words ++ older_rows rows (start_of c).args.marks.now) + 1 ≤ length (start_of c).args.room.now
+numbers_fit : (c : After-put_older_rows-numbers) → c.args.at + length (left_out_words ++ older_rows rows c.args.marks.now) + 1 ≤ length c.args.room.now
 numbers_fit c =
-    let room = (start_of c).requires.0 in
-    let short = older_length rows (start_of c).args.marks.now in
-    let both = length-append left_out_words (older_rows rows (start_of c).args.marks.now) in
+    let room = c.requires.0 in
+    let short = older_length rows c.args.marks.now in
+    let both = length-append left_out_words (older_rows rows c.args.marks.now) in
     omega arith
 
 pub put-requires : goal.put-requires
 put-requires c =
-    let call = c.before.before.before.before in
+    let call = c in
     let fits = numbers_fit (goal.at.put-requires c).After-put_older_rows-numbers in
     let same = same_room (numbered (goal.at.put-requires c).After-put_older_rows-numbers) (omega arith) in
     let ends = (numbered (goal.at.put-requires c).After-put_older_rows-numbers).ends in
@@ -45,8 +41,8 @@ put-requires c =
 pub returns-then-one_older : goal.returns-then-one_older
 unfolding left_out_text
 returns-then-one_older c =
-    let call = c.before.before.before.before.before.before.before in
-    let marks = (start_of (goal.at.returns-then-one_older c).After-put_older_rows-numbers).args.marks.now in
+    let call = c in
+    let marks = c.args.marks.now in
     let found = call in
     let fits = numbers_fit (goal.at.returns-then-one_older c).After-put_older_rows-numbers in
     as_text (put_then (numbered (goal.at.returns-then-one_older c).After-put_older_rows-numbers) (omega arith) c.put.ensures)

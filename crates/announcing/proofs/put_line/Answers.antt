@@ -7,30 +7,26 @@ use Rattle.texts.proofs.Putting.{as_text}
 use Rattle.heading.proofs.Words.{line-counted, line-is, line_length_law}
 use Rattle.announcing.specs.Told.{page_line}
 use Rattle.announcing.proofs.put_line.Goals as goal
-use Rattle.announcing.proofs.put_line.Goals.{After-line_of-line, Start}
-
--- where the function starts
-abbrev start_of : After-line_of-line → Start
-start_of c = c.before.before.before
+use Rattle.announcing.proofs.put_line.Goals.{After-line_of-line}
 
 text-is : (c : After-line_of-line)
-    → let a = (start_of c).args in take c.line_of-line.result.used c.line_of-line.result.bytes ≡ page_line a.word a.mended a.page
-text-is c = let a = (start_of c).args in line-is a.word a.page.magazine a.page.header a.mended c.line_of-line.ensures.value
+    → let a = c.args in take c.line_of-line.result.used c.line_of-line.result.bytes ≡ page_line a.word a.mended a.page
+text-is c = let a = c.args in line-is a.word a.page.magazine a.page.header a.mended c.line_of-line.ensures.value
 
 pub slice_bounds-put-end : goal.slice_bounds-put-end
 slice_bounds-put-end c =
-    let call = c.before.before.before in
-    let a = (start_of (goal.at.slice_bounds-put-end c).After-line_of-line).args in
+    let call = c in
+    let a = c.args in
     line-counted a.word a.page.magazine a.page.header a.mended call.line_of-line.ensures.value
 
 pub put-requires : goal.put-requires
 put-requires c =
-    let call = c.before.before.before in
-    let start = start_of (goal.at.put-requires c).After-line_of-line in
+    let call = c in
+    let start = c in
     let a = start.args in
     let size = ap length (text-is (goal.at.put-requires c).After-line_of-line) in
     let short = line_length_law a.word a.page.magazine a.page.header a.mended (omega arith) in
-    omega (arith, start.pre)
+    omega (arith, start.requires)
 
 pub returns : goal.returns
 returns c = as_text c.put.ensures (text-is (goal.at.returns c).After-line_of-line)
