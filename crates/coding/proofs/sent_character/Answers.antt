@@ -1,5 +1,4 @@
 -- `coding::sent_character` meets its contract: the code's test is the definition's.
-use borrow.Author.Rules.{rules}
 use borrow.Author.Tests.{eq-eqb, ne_eqb}
 use Rattle.laws.specs.Digits.{weight}
 use Rattle.coding.specs.Characters.{sent_character}

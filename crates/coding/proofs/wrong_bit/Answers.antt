@@ -1,5 +1,4 @@
 -- `coding::wrong_bit` meets its contract, by one test over all that A, B and C can say, of what the check made of the code itself.
-use mathlib.Core.Path.{◌≡◌}
 use mathlib.Core.Bool.{Bool, true, false, ◌&&◌}
 use Prim.Native.Nat.{ℕ, ◌*◌, ◌<◌}
 use borrow.Author.Rules.{rules}

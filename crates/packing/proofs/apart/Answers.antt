@@ -1,5 +1,4 @@
 use native.Mathlib.Omega.{arith}
-use borrow.Author.Rules.{rules}
 use lib.Bits.{and_le_r}
 use Rattle.laws.specs.Fields.{total}
 use Rattle.laws.proofs.Words.{mask}

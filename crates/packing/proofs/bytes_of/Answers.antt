@@ -1,9 +1,9 @@
 use mathlib.Core.Path.{◌≡◌, refl, ◌∙◌}
-use mathlib.Core.List.{◌++◌, append-nil}
-use Prim.Native.Nat.{◌+◌, ◌*◌, ◌-◌, ◌≤◌}
+use mathlib.Core.List.{append-nil}
+use Prim.Native.Nat.{◌+◌, ◌*◌, ◌-◌}
 use native.Mathlib.Omega.{arith}
 use borrow.Author.Rules.{rules}
-use lib.ListN.{length, length-set, drop}
+use lib.ListN.{length-set}
 use Rattle.laws.specs.Fields.{bytes_of, digits}
 use Rattle.packing.proofs.Steps.{one_before}
 use Rattle.packing.proofs.bytes_of.Goals as goal

@@ -1,13 +1,8 @@
-use mathlib.Core.Path.{◌≡◌, refl, ◌∙◌, ap}
-use mathlib.Core.List.{List}
-use Prim.Native.Nat.{ℕ, ◌-◌, ◌≤◌}
-use native.Mathlib.Omega.{arith}
-use borrow.Author.Rules.{rules}
+use mathlib.Core.Path.{◌≡◌}
+use Prim.Native.Nat.{◌-◌, ◌≤◌}
 use lib.ListN.{take}
-use lib.Seq.{take_all}
 use Rattle.laws.specs.Digits.{binary}
 use Rattle.laws.specs.Fields.{bits_of}
-use Rattle.packing.proofs.Steps.{one_more, room}
 use Rattle.packing.proofs.word_of.Given as goal
 
 abbrev pub invariant-loop-at : goal.invariant-loop-at
