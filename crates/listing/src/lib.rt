@@ -17,7 +17,7 @@ pub const MOST: usize = 65536;
 pub const ROOM: usize = 64;
 
 // A line of text with its line feed: the first `used` bytes, and zeros past them.
-#[derive(Drop)]
+#[derive(Clone, Copy)]
 pub struct Line {
     pub bytes: [u8; ROOM],
     pub used: usize,

@@ -27,7 +27,7 @@ const ROOM: usize = LINES * LONGEST;
 const ARGUMENT: usize = 16;
 
 // The receiver between two lines, the watch beside it, and the record of the last page that closed.
-#[derive(Drop)]
+#[derive(Clone, Copy)]
 struct State {
     receiver: Receiver,
     watch: Watch,
@@ -42,7 +42,7 @@ struct Fed {
 }
 
 // What comes after a turn of reading.
-#[derive(Drop)]
+#[derive(Clone, Copy)]
 enum Next {
     More,
     // The input ended or failed.
@@ -52,7 +52,7 @@ enum Next {
 }
 
 // The state after a turn, and how many bytes of a line whose rest is to come lie at the chunk's start.
-#[derive(Drop)]
+#[derive(Clone, Copy)]
 struct Turn {
     state: State,
     part: usize,

@@ -26,7 +26,7 @@ pub enum Word {
 
 // Whether a line was refused while the page was open; how many lines there were, how many of them were refused by 10 and by 11, and how many pages closed; how many
 // Hamming bytes were mended, in how many lines, and how many so far in the own lines of the page that is open, its header and its rows.
-#[derive(Drop)]
+#[derive(Clone, Copy)]
 pub struct Watch {
     pub gap: bool,
     pub lines: u64,
