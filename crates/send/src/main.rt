@@ -74,6 +74,7 @@ fn send_input(rt: &(impl Input + Print + Eprint), wanted: [bool; CHOICES]) {
     send(rt, &input[..count], wanted);
 }
 
+// Sends the rows that an argument names.
 fn send_chosen(rt: &(impl Input + Print + Eprint), argument: &[u8]) {
     let chosen = choosing::rows_asked(argument);
     let answer = chosen.answer;
@@ -87,6 +88,7 @@ fn send_chosen(rt: &(impl Input + Print + Eprint), argument: &[u8]) {
     }
 }
 
+// An argument that is longer than its room is taken for an empty one.
 fn main(rt: HostRuntime) {
     let Err(FillError::NotPresent) = rt.arg(2, &mut []) else {
         console::complain(
