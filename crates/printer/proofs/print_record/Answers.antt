@@ -25,12 +25,11 @@ found g c e = sym (output_in _ e c.read_record-read.ensures.0)
 page-found : (g : Over) (c : After-printed_page-printed g) → c.printed_page-printed.result.text ≡ output c.args.«record».now
 unfolding output_of read_paper accepted refused_by page_paper
 page-found g c =
-    let call = c in
-    let bytes = call.args.«record».now in
-    let codes = ap (λ (page : Page). page.cells.characters) call.read_record-read.ensures.1 in
+    let bytes = c.args.«record».now in
+    let codes = ap (λ (page : Page). page.cells.characters) c.read_record-read.ensures.1 in
     let shown = page_shown (page_read bytes).cells.characters (read.page_shown bytes) in
     let is = c.printed_page-printed.ensures.result_value ∙ (ap printed_page codes ∙ shown) in
-    ap (λ (p : Printed). p.bytes) is ∙ found g call c.in-Read.is
+    ap (λ (p : Printed). p.bytes) is ∙ sym (output_in bytes c.in-Read.is c.read_record-read.ensures.0)
 
 pub print-requires : goal.print-requires
 print-requires g c = page-found g (goal.at.print-requires g c).After-printed_page-printed

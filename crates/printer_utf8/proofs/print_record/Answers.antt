@@ -32,32 +32,32 @@ print_page-requires g c =
 
 pub print-requires : goal.print-requires
 unfolding output_of read_paper refused_by
-print-requires g c = is-output c.before.before.before.before c.in-WrongLength.is
+print-requires g c = is-output g (goal.at.print-requires g c).After-read_record-read c.in-WrongLength.is
 
 pub print-requires-in-WrongRowCode : goal.print-requires-in-WrongRowCode
 unfolding output_of read_paper refused_by
-print-requires-in-WrongRowCode g c = is-output c.before.before.before.before c.in-WrongRowCode.is
+print-requires-in-WrongRowCode g c = is-output g (goal.at.print-requires-in-WrongRowCode g c).After-read_record-read c.in-WrongRowCode.is
 
 pub print-requires-in-BadDigit : goal.print-requires-in-BadDigit
 unfolding output_of read_paper refused_by
-print-requires-in-BadDigit g c = is-output c.before.before.before.before c.in-BadDigit.is
+print-requires-in-BadDigit g c = is-output g (goal.at.print-requires-in-BadDigit g c).After-read_record-read c.in-BadDigit.is
 
 pub print-requires-in-UnlawfulCells : goal.print-requires-in-UnlawfulCells
 unfolding output_of read_paper refused_by
-print-requires-in-UnlawfulCells g c = is-output c.before.before.before.before c.in-UnlawfulCells.is
+print-requires-in-UnlawfulCells g c = is-output g (goal.at.print-requires-in-UnlawfulCells g c).After-read_record-read c.in-UnlawfulCells.is
 
 pub returns-in-WrongLength : goal.returns-in-WrongLength
 unfolding output_of complaint_of read_paper refused_by
-returns-in-WrongLength g c = c.print.ensures ∙ is-written c.before.before.before.before.before c.in-WrongLength.is
+returns-in-WrongLength g c = c.print.ensures ∙ is-written g (goal.at.returns-in-WrongLength g c).After-read_record-read c.in-WrongLength.is
 
 pub returns-in-WrongRowCode : goal.returns-in-WrongRowCode
 unfolding output_of complaint_of read_paper refused_by
-returns-in-WrongRowCode g c = c.print-in-WrongRowCode.ensures ∙ is-written c.before.before.before.before.before c.in-WrongRowCode.is
+returns-in-WrongRowCode g c = c.print-in-WrongRowCode.ensures ∙ is-written g (goal.at.returns-in-WrongRowCode g c).After-read_record-read c.in-WrongRowCode.is
 
 pub returns-in-BadDigit : goal.returns-in-BadDigit
 unfolding output_of complaint_of read_paper refused_by
-returns-in-BadDigit g c = c.print-in-BadDigit.ensures ∙ is-written c.before.before.before.before.before c.in-BadDigit.is
+returns-in-BadDigit g c = c.print-in-BadDigit.ensures ∙ is-written g (goal.at.returns-in-BadDigit g c).After-read_record-read c.in-BadDigit.is
 
 pub returns-in-UnlawfulCells : goal.returns-in-UnlawfulCells
 unfolding output_of complaint_of read_paper refused_by
-returns-in-UnlawfulCells g c = c.print-in-UnlawfulCells.ensures ∙ is-written c.before.before.before.before.before c.in-UnlawfulCells.is
+returns-in-UnlawfulCells g c = c.print-in-UnlawfulCells.ensures ∙ is-written g (goal.at.returns-in-UnlawfulCells g c).After-read_record-read c.in-UnlawfulCells.is

@@ -51,14 +51,14 @@ slice_bounds-print-end g c = sym (length-take-le _ _ (omega (arith, fit g (goal.
 pub print-requires : goal.print-requires
 print-requires g c =
     let closed = c in
-    let known = closed.before.before.before in
-    let sent = known in
-    let start = sent in (
+    let known = c in
+    let sent = c in
+    let start = c in (
       output-is start.args.«record».now start.args.wanted sent.send_page.result sent.send_page.ensures.result_value
           known.in-Lines.count known.in-Lines.is (search rules) _ sent.send_page.ensures.room_after
           closed.read_record-read.result.page closed.read_record-read.ensures.1
           closed.closing_line-closing.result closed.closing_line-closing.ensures,
-      fits_room (known.in-Lines.count * line_length) sent.send_page.new.1.1.0 (fit known),
+      fits_room (known.in-Lines.count * line_length) c.send_page.new.room (fit g (goal.at.print-requires g c).In-Lines),
       search rules,
     )
 
