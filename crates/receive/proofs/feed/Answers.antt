@@ -9,36 +9,32 @@ use Rattle.receive.specs.Feeding.{fed_from, lines_at_once}
 use Rattle.receive.proofs.Feeding.{all_said, text_first, text-within}
 use borrow.Author.Rules.{rules}
 use Rattle.receive.proofs.feed.Goals as goal
-use Rattle.receive.proofs.feed.Goals.{After-announce-announced, Start}
+use Rattle.receive.proofs.feed.Goals.{After-announce-announced}
 use Rattle.receive.proofs.feed.Given.{Over}
 
--- what was promised of all g the lines
+-- what was promised of all the lines
 module _ (g : Over) (c : After-announce-announced g) where
-  abbrev start : Start g
-  start = c.before.before.before.before.before.before.before
-
   abbrev room : List ℕ
   room = replicate (lines_at_once * longest) 0
 
   size : length room ≡ lines_at_once * longest
   size = length-replicate {A = ℕ} (lines_at_once * longest) 0
 
-  all : SaysAs (fed_from start.args.state) start.args.lines.now c.announce-announced.result c.announce-announced.new.1.1.1.0 room g c.announce-announced.new.1.1.1.1.0
-  all = all_said start.args.lines.now room g size g start.requires.1 c.announce-announced.ensures
+  all : SaysAs (fed_from c.args.state) c.args.lines.now c.announce-announced.result c.announce-announced.new.«record» room c.announce-announced.new.room
+  all = all_said c.args.lines.now room size c.requires.1 c.announce-announced.ensures
 
-  first : take c.announce-announced.result.length c.announce-announced.new.1.1.1.1.0 ≡ (said (fed_from start.args.state) start.args.lines.now).text
-  first = text_first start.args.lines.now room g size g start.requires.1 c.announce-announced.ensures
+  first : take c.announce-announced.result.length c.announce-announced.new.room ≡ (said (fed_from c.args.state) c.args.lines.now).text
+  first = text_first c.args.lines.now room size c.requires.1 c.announce-announced.ensures
 
-  within : c.announce-announced.result.length ≤ length c.announce-announced.new.1.1.1.1.0
-  within = text-within start.args.lines.now room g size g start.requires.1 c.announce-announced.ensures
+  within : c.announce-announced.result.length ≤ length c.announce-announced.new.room
+  within = text-within c.args.lines.now room size c.requires.1 c.announce-announced.ensures
 
 pub slice_bounds-room-end : goal.slice_bounds-room-end
 slice_bounds-room-end g c = within g (goal.at.slice_bounds-room-end g c).After-announce-announced
 
 pub slice_bounds-write_said-end : goal.slice_bounds-write_said-end
 slice_bounds-write_said-end g c =
-    let call = c in
-    sym (length-take-le call.announce-announced.result.length call.announce-announced.new.1.1.1.1.0 (within g (goal.at.slice_bounds-write_said-end g c).After-announce-announced))
+    sym (length-take-le c.announce-announced.result.length c.announce-announced.new.room (within g (goal.at.slice_bounds-write_said-end g c).After-announce-announced))
 
 pub write_said-written-requires : goal.write_said-written-requires
 write_said-written-requires g c =
@@ -46,5 +42,4 @@ write_said-written-requires g c =
 
 pub returns : goal.returns
 returns g c =
-    let call = c in
-    let says = all g (goal.at.returns g c).After-announce-announced in record { feeds = record { kept = says.kept; watched = says.watched; left = says.left }; record_len = call.announce-announced.auto.1.1.1.0 ∙ (start g (goal.at.returns g c).After-announce-announced).requires.0 }
+    let says = all g (goal.at.returns g c).After-announce-announced in record { feeds = record { kept = says.kept; watched = says.watched; left = says.left }; record_len = c.announce-announced.auto.«record» ∙ c.requires.0 }

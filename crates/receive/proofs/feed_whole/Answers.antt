@@ -30,7 +30,7 @@ returns g c =
     let start = call in
     let size = start.requires.0.1 in
     let fits = start.requires.1 in record {
-      turned = turned start.args.chunk.now start.args.full (omega arith) start.args.state feed.result.state c.next_after-next.result call.carry.new.0 feed.ensures.0
+      turned = turned start.args.chunk.now start.args.full (omega arith) start.args.state feed.result.state c.next_after-next.result call.carry.new.chunk feed.ensures.feeds
           call.carry.ensures;
-      carried = ((feed.ensures.1, call.carry.auto.0 ∙ size), omega arith);
+      carried = ((feed.ensures.record_len, call.carry.auto.chunk ∙ size), omega arith);
     }

@@ -31,7 +31,7 @@ pub feed_whole-requires : goal.feed_whole-requires
 feed_whole-requires g c =
     let call = c in
     let start = call in
-    ((start.requires.0.0, call.read_behind.auto.0 ∙ start.requires.0.1), fits-here g (goal.at.feed_whole-requires g c).In-Bytes)
+    ((start.requires.0.0, call.read_behind.auto.buffer ∙ start.requires.0.1), fits-here g (goal.at.feed_whole-requires g c).In-Bytes)
 
 pub returns-in-Bytes : goal.returns-in-Bytes
 returns-in-Bytes g c =
@@ -41,7 +41,7 @@ returns-in-Bytes g c =
     let size = start.requires.0.1 in
     let small = start.requires.1 in
     let part = start.args.turn.part in
-    let full = part + c.in-Bytes.more in record { comes = some-came start.args.chunk.now part (omega arith) _ call.read_behind.ensures.kept start.args.turn.state full (omega arith) fed.result _ fed.ensures.0; carried = fed.ensures.1 }
+    let full = part + c.in-Bytes.more in record { comes = some-came start.args.chunk.now part (omega arith) _ call.read_behind.ensures.kept start.args.turn.state full (omega arith) fed.result _ fed.ensures.turned; carried = fed.ensures.carried }
 
 pub returns-in-End : goal.returns-in-End
 returns-in-End g c =
@@ -49,7 +49,7 @@ returns-in-End g c =
     let start = call in
     let size = start.requires.0.1 in
     let small = start.requires.1 in
-    let part = start.args.turn.part in record { comes = none_came start.args.chunk.now part (omega arith) _ call.read_behind.ensures.kept start.args.turn.state small _; carried = ((start.requires.0.0, call.read_behind.auto.0 ∙ size), small) }
+    let part = start.args.turn.part in record { comes = none_came start.args.chunk.now part (omega arith) _ call.read_behind.ensures.kept start.args.turn.state small _; carried = ((start.requires.0.0, call.read_behind.auto.buffer ∙ size), small) }
 
 pub returns-in-Failed : goal.returns-in-Failed
 returns-in-Failed g c =
@@ -57,4 +57,4 @@ returns-in-Failed g c =
     let start = call in
     let size = start.requires.0.1 in
     let small = start.requires.1 in
-    let part = start.args.turn.part in record { comes = none_came start.args.chunk.now part (omega arith) _ call.read_behind.ensures.kept start.args.turn.state small _; carried = ((start.requires.0.0, call.read_behind.auto.0 ∙ size), small) }
+    let part = start.args.turn.part in record { comes = none_came start.args.chunk.now part (omega arith) _ call.read_behind.ensures.kept start.args.turn.state small _; carried = ((start.requires.0.0, call.read_behind.auto.buffer ∙ size), small) }

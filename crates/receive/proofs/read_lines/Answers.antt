@@ -15,7 +15,7 @@ one_turn-after-requires g c = c.loop-turns.invariant.0
 pub loop-turns-preserved : goal.loop-turns-preserved
 loop-turns-preserved g c =
     let call = c in
-    (call.one_turn-after.ensures.carried, call.one_turn-after.auto.1.0 ∙ call.loop-turns.invariant.1)
+    (call.one_turn-after.ensures.carried, call.one_turn-after.auto.chunk ∙ call.loop-turns.invariant.1)
 
 pub shape_of-chunk : goal.shape_of-chunk
 shape_of-chunk g c = c.loop-turns.invariant.1

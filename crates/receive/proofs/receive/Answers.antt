@@ -11,11 +11,11 @@ slice_bounds-feed-end g c =
     let read = c.read_lines-turn in
     let size = read.ensures.0.1 in
     let small = read.ensures.1 in
-    sym (length-take-le read.result.part read.new.1.0 (omega arith))
+    sym (length-take-le read.result.part read.new.chunk (omega arith))
 
 pub feed-last-requires : goal.feed-last-requires
 feed-last-requires g c =
     let read = c.read_lines-turn in
     let small = read.ensures.1 in
-    let size = length-take read.result.part read.new.1.0 in
+    let size = length-take read.result.part read.new.chunk in
     (read.ensures.0.0, omega arith)
