@@ -123,8 +123,8 @@ def framed(case):
 
 def said_by(program, cases):
     """What a built program writes for some cases."""
-    if not os.path.exists(os.path.join(ROOT, "target", "bin", program)):
-        sys.exit(f"{program} is not built: rt check {program}")
+    if not os.path.exists(os.path.join(ROOT, "crates", program, "out", program)):
+        sys.exit(f"{program} is not built: rt run in crates/{program}")
     given = b"".join(framed(case) for case in cases)
     run = subprocess.run([os.path.join(ROOT, "tests", "start"), program], input=given, check=True, capture_output=True)
     if run.stderr:
