@@ -1,10 +1,8 @@
 -- `receive::carry` meets its contract. The loop's invariant: so many bytes are moved, and those from there on are as they were.
 use mathlib.Core.Path.{◌≡◌}
-use Prim.Native.Nat.{◌+◌, ◌≤◌, ◌-◌}
 use native.Mathlib.Omega.{arith}
 use borrow.Author.Rules.{rules}
-use lib.ListN.{length}
-use Rattle.receive.proofs.Moving.{Moves, all_moved, moves_more, moves_none}
+use Rattle.receive.proofs.Moving.{all_moved, moves_more, moves_none}
 use Rattle.receive.proofs.carry.Goals as goal
 
 pub loop-i-init : goal.loop-i-init

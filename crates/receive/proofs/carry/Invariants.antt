@@ -1,9 +1,6 @@
-use mathlib.Core.Path.{◌≡◌}
 use Prim.Native.Nat.{◌+◌, ◌≤◌, ◌-◌}
-use native.Mathlib.Omega.{arith}
-use borrow.Author.Rules.{rules}
 use lib.ListN.{length}
-use Rattle.receive.proofs.Moving.{Moves, all_moved, moves_more, moves_none}
+use Rattle.receive.proofs.Moving.{Moves}
 use Rattle.receive.proofs.carry.Given as goal
 
 abbrev pub invariant-loop-i : goal.invariant-loop-i

@@ -7,7 +7,6 @@ use lib.Seq.{length-take-le}
 use Rattle.announcing.specs.Said.{SaysAs, longest, said}
 use Rattle.receive.specs.Feeding.{fed_from, lines_at_once}
 use Rattle.receive.proofs.Feeding.{all_said, text_first, text-within}
-use borrow.Author.Rules.{rules}
 use Rattle.receive.proofs.feed.Goals as goal
 use Rattle.receive.proofs.feed.Goals.{After-announce-announced}
 use Rattle.receive.proofs.feed.Given.{Over}

@@ -6,7 +6,6 @@ use lib.ListN.{length-take}
 use lib.Seq.{length-take-le}
 use Rattle.packet.specs.Lines.{line_length}
 use Rattle.receive.proofs.Feeding.{turned}
-use borrow.Author.Rules.{rules}
 use Rattle.receive.proofs.feed_whole.Goals as goal
 
 pub slice_bounds-feed-end-2 : goal.slice_bounds-feed-end-2

@@ -5,7 +5,6 @@ use native.Mathlib.Omega.{arith}
 use Rattle.console.proofs.Reading.{some_read}
 use Rattle.receive.specs.Feeding.{chunk_size}
 use Rattle.receive.proofs.Feeding.{none_came, some-came}
-use borrow.Author.Rules.{rules}
 use Rattle.receive.proofs.one_turn.Goals as goal
 use Rattle.receive.proofs.one_turn.Goals.{In-Bytes}
 use Rattle.receive.proofs.one_turn.Given.{Over}

@@ -1,9 +1,6 @@
 -- `receive::read_lines` meets its contract: it ends, and less than a line is left.
-use mathlib.Core.Path.{◌≡◌, refl, ◌∙◌}
+use mathlib.Core.Path.{refl, ◌∙◌}
 use native.Mathlib.Omega.{arith}
-use borrow.Author.Rules.{rules}
-use lib.ListN.{length}
-use Rattle.receive.specs.Feeding.{Carried}
 use Rattle.receive.proofs.read_lines.Goals as goal
 
 pub loop-turns-init : goal.loop-turns-init
