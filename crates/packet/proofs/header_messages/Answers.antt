@@ -1,10 +1,10 @@
 use mathlib.Core.Path.{◌≡◌, sym}
 use native.Mathlib.Nat.{not-suc-le-zero}
 use mathlib.Core.Option.{some}
-use Prim.Native.Nat.{ℕ, ◌+◌, ◌-◌, ◌≤◌, ◌<◌}
+use Prim.Native.Nat.{ℕ, ◌+◌}
 use native.Mathlib.Omega.{arith}
 use borrow.Author.Rules.{rules}
-use lib.ListN.{length, get_or}
+use lib.ListN.{get_or}
 use Rattle.laws.proofs.Lists.{stored_more}
 use Rattle.coding.specs.Bits.{turned_byte}
 use Rattle.coding.specs.Hamming.{message}

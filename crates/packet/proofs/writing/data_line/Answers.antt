@@ -1,13 +1,13 @@
 -- `packet::data_line` meets its contract. In its loop the run-in and the framing code are followed by the packet's bytes so far.
-use mathlib.Core.Path.{◌≡◌, ◌∙◌}
+use mathlib.Core.Path.{◌∙◌}
 use mathlib.Core.List.{List}
-use Prim.Native.Nat.{ℕ, ◌+◌, ◌-◌, ◌≤◌}
+use Prim.Native.Nat.{ℕ, ◌+◌}
 use native.Mathlib.Omega.{arith}
 use borrow.Author.Rules.{rules}
-use lib.ListN.{length, length-set, get_or, replicate, set}
-use lib.Seq.{paste, paste-zero}
+use lib.ListN.{length-set, get_or, replicate, set}
+use lib.Seq.{paste-zero}
 use Rattle.coding.specs.Bits.{framing_code}
-use Rattle.packet.specs.Lines.{framing_place, line_length, packet_length, packet_place}
+use Rattle.packet.specs.Lines.{framing_place, line_length, packet_place}
 use Rattle.packet.specs.Writing.{data_line, run_in}
 use Rattle.packet.proofs.Filling.{copied, copied_more}
 use Rattle.packet.proofs.writing.data_line.Goals as goal

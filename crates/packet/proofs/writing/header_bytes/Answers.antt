@@ -1,12 +1,11 @@
 -- `packet::header_bytes` meets its contract. In its loop the array is what it was before, pasted over with the messages' bytes so far.
-use mathlib.Core.Path.{◌≡◌, ap, ◌∙◌}
+use mathlib.Core.Path.{◌∙◌}
 use mathlib.Core.List.{map}
-use Prim.Native.Nat.{◌+◌, ◌-◌, ◌≤◌}
+use Prim.Native.Nat.{◌+◌}
 use native.Mathlib.Omega.{arith}
 use borrow.Author.Rules.{rules}
-use lib.ListN.{length, length-set, set}
-use lib.Seq.{paste, paste-zero}
-use Rattle.packet.specs.Texts.{header_column}
+use lib.ListN.{length-set, set}
+use lib.Seq.{paste-zero}
 use Rattle.packet.specs.Writing.{address_bytes, address_length, address_messages, header_bytes, header_length, message_byte}
 use Rattle.packet.proofs.Filling.{behind, filled, filled_more, started}
 use Rattle.packet.proofs.writing.header_bytes.Goals as goal

@@ -1,12 +1,11 @@
 -- `packet::row_packet` meets its contract. In its loop the array is what it was before, pasted over with the characters' bytes so far.
-use mathlib.Core.Path.{◌≡◌, ap, ◌∙◌}
+use mathlib.Core.Path.{◌∙◌}
 use mathlib.Core.List.{map}
-use Prim.Native.Nat.{◌+◌, ◌-◌, ◌≤◌}
+use Prim.Native.Nat.{◌+◌}
 use native.Mathlib.Omega.{arith}
 use borrow.Author.Rules.{rules}
-use lib.ListN.{length, length-set, set}
-use lib.Seq.{paste, paste-zero}
-use Rattle.grid.specs.Grid.{columns}
+use lib.ListN.{length-set, set}
+use lib.Seq.{paste-zero}
 use Rattle.packet.specs.Lines.{packet_length}
 use Rattle.packet.specs.Writing.{address_bytes, address_length, address_messages, character_byte, row_packet}
 use Rattle.packet.proofs.Filling.{behind, filled, filled_more, started}
