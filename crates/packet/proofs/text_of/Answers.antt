@@ -22,14 +22,13 @@ pub loop-column-init : goal.loop-column-init
 loop-column-init c = (search rules, search rules, search rules, λ k h. absurd (not-suc-le-zero h))
 
 pub loop-column-preserved : goal.loop-column-preserved
-loop-column-preserved c =
-    let b = c in (
-      search rules,
-      search rules,
-      search rules,
-      stored_more (λ (k byte : ℕ). byte ≡ turned_byte (get_or b.args.packet.now (2 + k) 0))
-          b.loop-column.bytes b.loop-column.column _ 0 (search rules) b.loop-column.invariant.3 c.turned.ensures,
-    )
+loop-column-preserved c = (
+  search rules,
+  search rules,
+  search rules,
+  stored_more (λ (k byte : ℕ). byte ≡ turned_byte (get_or c.args.packet.now (2 + k) 0))
+      c.loop-column.bytes c.loop-column.column _ 0 (search rules) c.loop-column.invariant.3 c.turned.ensures,
+)
 
 pub returns : goal.returns
 returns c =

@@ -20,14 +20,13 @@ pub loop-at-init : goal.loop-at-init
 loop-at-init c = (search rules, search rules, search rules, paste-zero _ packet_place c.args.packet)
 
 pub loop-at-preserved : goal.loop-at-preserved
-loop-at-preserved c =
-    let b = c in (
-      search rules,
-      search rules,
-      simp length-set b.loop-at.invariant.2,
-      (λ i. set (b.loop-at.invariant.3 i) (packet_place + b.loop-at.at) (get_or b.args.packet b.loop-at.at 0))
-          ∙ copied_more started packet_place b.args.packet b.loop-at.at (omega arith) (omega arith),
-    )
+loop-at-preserved c = (
+  search rules,
+  search rules,
+  simp length-set c.loop-at.invariant.2,
+  (λ i. set (c.loop-at.invariant.3 i) (packet_place + c.loop-at.at) (get_or c.args.packet c.loop-at.at 0))
+      ∙ copied_more started packet_place c.args.packet c.loop-at.at (omega arith) (omega arith),
+)
 
 pub returns : goal.returns
 unfolding data_line
