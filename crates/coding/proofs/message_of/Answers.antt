@@ -56,24 +56,21 @@ by_told byte h answer e = ap decoded_paper (e ∙ right byte h)
 
 pub returns-then-wrong-ne-B7 : goal.returns-then-wrong-ne-B7
 returns-then-wrong-ne-B7 c =
-    let known = c.before.before in
     by_told _ (search rules) Refused
-    (rw (← known.before.tests_of-a.ensures, c.before.if-d.true, ← known.wrong_bit-wrong.ensures, ne_eqb _ _ c.if-wrong-ne-B7.true))
+    (rw (← c.tests_of-a.ensures, c.if-d.true, ← c.wrong_bit-wrong.ensures, ne_eqb _ _ c.if-wrong-ne-B7.true))
 
 pub returns-then-d : goal.returns-then-d
 returns-then-d c =
-    let known = c.before.before.before in
     by_told _ (search rules) (Exact _)
-    (rw (← known.before.tests_of-a.ensures, c.before.before.if-d.true, ← known.wrong_bit-wrong.ensures, eq-eqb _ _ c.before.if-wrong-ne-B7.false, c.message_bits.ensures))
+    (rw (← c.tests_of-a.ensures, c.if-d.true, ← c.wrong_bit-wrong.ensures, eq-eqb _ _ c.if-wrong-ne-B7.false, c.message_bits.ensures))
 
 pub overflow_cast-position : goal.overflow_cast-position
-overflow_cast-position c = record { fits = omega (arith, trailing_le 8 c.before.before.wrong_bit-wrong.result) }
+overflow_cast-position c = record { fits = omega (arith, trailing_le 8 c.wrong_bit-wrong.result) }
 
 pub overflow_add-position : goal.overflow_add-position
-overflow_add-position c = record { fits = omega (arith, trailing_le 8 c.before.before.wrong_bit-wrong.result) }
+overflow_add-position c = record { fits = omega (arith, trailing_le 8 c.wrong_bit-wrong.result) }
 
 pub returns : goal.returns
 returns c =
-    let known = c.before.before in
     by_told _ (search rules) (Corrected _ _)
-    (rw (← known.before.tests_of-a.ensures, c.before.if-d.false, ← known.wrong_bit-wrong.ensures, c.message_bits-message.ensures))
+    (rw (← c.tests_of-a.ensures, c.if-d.false, ← c.wrong_bit-wrong.ensures, c.message_bits-message.ensures))

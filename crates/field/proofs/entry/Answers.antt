@@ -1,7 +1,6 @@
 -- `field::entry` meets its contract: at each return the tests that led there say which case of `start` holds.
 use mathlib.Core.Path.{sym, ◌∙◌}
-use borrow.Author.Rules.{rules}
-use borrow.Author.Tests.{eq-eqb, ne_eqb, lt-ltb, le-ltb, not-true, not-false}
+use borrow.Author.Tests.{eq-eqb, ne_eqb, lt-ltb, le-ltb}
 use Rattle.field.specs.Field.{start}
 use Rattle.field.specs.Private.{first_start}
 use Rattle.field.proofs.entry.Goals as goal

@@ -1,6 +1,5 @@
 -- `field::is_wrong_length` meets its contract: a length of 44 is wrong nowhere, and for any other the test is the definition's.
 use mathlib.Core.Bool.{and-true, and-false}
-use borrow.Author.Rules.{rules}
 use borrow.Author.Tests.{eq-eqb, ne_eqb}
 use Rattle.field.specs.Field.{wrong_length}
 use Rattle.field.proofs.is_wrong_length.Goals as goal

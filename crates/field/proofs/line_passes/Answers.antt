@@ -1,6 +1,5 @@
 -- `field::line_passes` meets its contract: by what the tests of the offset and of the framing code promise.
 use Rattle.field.specs.Search.{line_passes}
-use borrow.Author.Rules.{rules}
 use Rattle.field.proofs.line_passes.Goals as goal
 
 pub returns : goal.returns

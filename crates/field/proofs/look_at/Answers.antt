@@ -4,7 +4,6 @@ use mathlib.Core.Bool.{Bool}
 use mathlib.Core.List.{List}
 use Prim.Native.Nat.{ℕ}
 use native.Mathlib.Omega.{arith}
-use borrow.Author.Rules.{rules}
 use lib.Dec.{lit<}
 use Rattle.field.specs.Field.{id_at, teletext_id, here, any_unit_paper}
 use Rattle.field.specs.Search.{found_paper}
@@ -37,20 +36,21 @@ id-is c e = ap teletext_id (sym (told c).id-is) ∙ (sym c.is_teletext.ensures �
 
 pub look_at_line-requires : goal.look_at_line-requires
 look_at_line-requires c =
-    let is = is_unit _ _ (told (goal.at.look_at_line-requires c).After-is_teletext).stands in
-    let long = teletext_length_law _ _ c.requires.1 is (id-is (goal.at.look_at_line-requires c).After-is_teletext c.if-is_teletext.true) in
-    (omega (arith, is.whole), (told (goal.at.look_at_line-requires c).After-is_teletext).after_is)
+    let d = (goal.at.look_at_line-requires c).After-is_teletext in
+    let is = is_unit _ _ (told d).stands in
+    let long = teletext_length_law _ _ c.requires.1 is (id-is d c.if-is_teletext.true) in
+    (omega (arith, is.whole), (told d).after_is)
 
 pub returns-then-is_teletext : goal.returns-then-is_teletext
 returns-then-is_teletext c =
-    let d = c.before.before in
-    c.look_at_line.ensures ∙ ap (step_told (field_of (goal.at.returns-then-is_teletext c).After-is_teletext)) (line-decides _ _ (told (goal.at.returns-then-is_teletext c).After-is_teletext).stands (id-is (goal.at.returns-then-is_teletext c).After-is_teletext c.if-is_teletext.true))
+    let d = (goal.at.returns-then-is_teletext c).After-is_teletext in
+    c.look_at_line.ensures ∙ ap (step_told (field_of d)) (line-decides _ _ (told d).stands (id-is d c.if-is_teletext.true))
 
 pub returns-else-is_teletext : goal.returns-else-is_teletext
 unfolding look_told step_told
 returns-else-is_teletext c =
-    let d = c.before in
-    ap go_on (told (goal.at.returns-else-is_teletext c).After-is_teletext).after_is ∙ ap (step_told (field_of (goal.at.returns-else-is_teletext c).After-is_teletext)) (other-id _ _ (told (goal.at.returns-else-is_teletext c).After-is_teletext).stands (id-is (goal.at.returns-else-is_teletext c).After-is_teletext c.if-is_teletext.false))
+    let d = (goal.at.returns-else-is_teletext c).After-is_teletext in
+    ap go_on (told d).after_is ∙ ap (step_told (field_of d)) (other-id _ _ (told d).stands (id-is d c.if-is_teletext.false))
 
 pub returns-in-End : goal.returns-in-End
 unfolding look_told found_paper any_unit_paper

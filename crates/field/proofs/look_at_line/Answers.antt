@@ -1,9 +1,7 @@
 -- `field::look_at_line` meets its contract: the line's test decides.
 use mathlib.Core.Path.{sym, ◌∙◌}
-use borrow.Author.Tests.{not-true, not-false}
 use Rattle.field.specs.Search.{ended_paper, found_paper}
 use Rattle.field.specs.Private.{look_told, step_told, line_step}
-use borrow.Author.Rules.{rules}
 use Rattle.field.proofs.look_at_line.Goals as goal
 
 pub returns-then-not-line_passes : goal.returns-then-not-line_passes

@@ -1,14 +1,11 @@
 -- `field::search` meets its contract. The loop's invariant: the walk from where the loop stands ends as the whole search does.
 -- The measure is what is left of the field.
 use mathlib.Core.Path.{◌≡◌, sym, ◌∙◌, ap}
-use Prim.Native.Nat.{◌-◌}
 use native.Mathlib.Omega.{arith}
-use borrow.Author.Rules.{rules}
-use lib.ListN.{length}
-use Rattle.field.specs.Search.{goes_on, step, ended_paper, searched_from, searched, found_paper}
+use Rattle.field.specs.Search.{goes_on, step, ended_paper, searched_from, found_paper}
 use Rattle.field.specs.Private.{first_start, look_told}
-use Rattle.field.proofs.Units.{Begins, begins}
-use Rattle.field.proofs.Walk.{further, answer_from, ends-after, begins-after, told_goes, told_ends, search_from}
+use Rattle.field.proofs.Units.{begins}
+use Rattle.field.proofs.Walk.{further, ends-after, begins-after, told_goes, told_ends, search_from}
 use Rattle.field.proofs.search.Goals as goal
 use Rattle.field.proofs.search.Goals.{In-GoOn}
 
@@ -42,7 +39,8 @@ loop-found-smaller c = omega (arith, further _ _ _ (onward-is (goal.at.loop-foun
 pub loop-found-preserved : goal.loop-found-preserved
 loop-found-preserved c =
     let (same, begin) = c.loop-found.invariant in
-    (ap (ended_paper _) (ends-after _ _ begin (onward-is (goal.at.loop-found-preserved c).In-GoOn)) ∙ same, begins-after _ _ begin (onward-is (goal.at.loop-found-preserved c).In-GoOn))
+    let onward = onward-is (goal.at.loop-found-preserved c).In-GoOn in
+    (ap (ended_paper _) (ends-after _ _ begin onward) ∙ same, begins-after _ _ begin onward)
 
 pub returns : goal.returns
 unfolding look_told

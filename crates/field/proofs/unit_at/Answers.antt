@@ -1,6 +1,5 @@
 -- `field::unit_at` meets its contract: by what `entry` promises of the place asked and `unit_here` of the place behind it.
 use mathlib.Core.Path.{sym, ◌∙◌, ap}
-use borrow.Author.Rules.{rules}
 use Rattle.field.specs.Field.{unit_from, any_unit_paper}
 use Rattle.field.specs.Private.{first_start}
 use Rattle.field.proofs.Units.{begins, unit_from_law}

@@ -2,7 +2,6 @@ use borrow.Author.Tests.{eq-eqb, ne_eqb}
 use Rattle.packet.specs.Addresses.{address_of}
 use Rattle.packet.specs.Lines.{packet_byte}
 use Rattle.coding.proofs.Heard.{message_heard_law, small_heard}
-use borrow.Author.Rules.{rules}
 use Rattle.packet.proofs.address_of.Goals as goal
 
 pub returns-then-packet-ne-PACKET_LENGTH : goal.returns-then-packet-ne-PACKET_LENGTH

@@ -1,7 +1,6 @@
 use native.Mathlib.Omega.{arith}
 use Rattle.laws.specs.Digits.{binary, weight}
 use Rattle.packet.specs.Headers.{control_of, lowest_first}
-use borrow.Author.Rules.{rules}
 use Rattle.packet.proofs.control_of.Goals as goal
 
 pub overflow_mul-result-4 : goal.overflow_mul-result-4

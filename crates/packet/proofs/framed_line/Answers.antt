@@ -1,7 +1,6 @@
 use mathlib.Core.Path.{◌∙◌, sym}
 use borrow.Author.Tests.{eq-eqb, ne_eqb}
 use Rattle.packet.specs.Lines.{framed, framed_paper}
-use borrow.Author.Rules.{rules}
 use Rattle.packet.proofs.framed_line.Goals as goal
 
 pub returns-then-line-ne-LINE_LENGTH : goal.returns-then-line-ne-LINE_LENGTH

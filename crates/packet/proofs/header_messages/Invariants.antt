@@ -1,16 +1,9 @@
-use mathlib.Core.Path.{◌≡◌, sym}
-use native.Mathlib.Nat.{not-suc-le-zero}
+use mathlib.Core.Path.{◌≡◌}
 use mathlib.Core.Option.{some}
 use Prim.Native.Nat.{ℕ, ◌+◌, ◌-◌, ◌≤◌, ◌<◌}
-use native.Mathlib.Omega.{arith}
-use borrow.Author.Rules.{rules}
 use lib.ListN.{length, get_or}
-use Rattle.laws.proofs.Lists.{stored_more}
 use Rattle.coding.specs.Bits.{turned_byte}
 use Rattle.coding.specs.Hamming.{message}
-use Rattle.packet.specs.Private.{eight_of}
-use Rattle.packet.proofs.Good.{header-good, header-spoiled}
-use Rattle.coding.proofs.Heard.{heard-good, heard-refused, message_heard_law}
 use Rattle.packet.proofs.header_messages.Given as goal
 
 abbrev pub invariant-loop-at : goal.invariant-loop-at

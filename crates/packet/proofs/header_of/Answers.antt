@@ -1,7 +1,6 @@
 use borrow.Author.Tests.{eq-eqb, ne_eqb, not-true, not-false}
 use Rattle.packet.specs.Headers.{header_of, header_paper}
 use Rattle.packet.proofs.Good.{eight-good, eight-spoiled}
-use borrow.Author.Rules.{rules}
 use Rattle.packet.proofs.header_of.Goals as goal
 
 pub returns-then-packet-ne-PACKET_LENGTH : goal.returns-then-packet-ne-PACKET_LENGTH

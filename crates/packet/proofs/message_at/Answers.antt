@@ -4,7 +4,6 @@ use Rattle.laws.specs.Paper.{one_or_none}
 use Rattle.coding.specs.Hamming.{message, message_in}
 use Rattle.coding.specs.declared.Decoded.{Decoded}
 use Rattle.coding.proofs.Unique.{decoded_is}
-use borrow.Author.Rules.{rules}
 use Rattle.packet.proofs.message_at.Goals as goal
 
 pub returns : goal.returns

@@ -2,7 +2,6 @@ use native.Mathlib.Omega.{arith}
 use Rattle.packet.specs.Lines.{packet_part}
 use Rattle.packet.specs.declared.Framed.TheVariants.{Packet, WrongLength, WrongFraming}
 use Rattle.packet.proofs.Whole.{answer-packet, answer-whole}
-use borrow.Author.Rules.{rules}
 use Rattle.packet.proofs.packet_of.Goals as goal
 
 pub slice_bounds-result-end : goal.slice_bounds-result-end

@@ -1,7 +1,6 @@
 use native.Mathlib.Omega.{arith}
 use Rattle.laws.specs.Digits.{binary, weight}
 use Rattle.packet.specs.Headers.{lowest_first}
-use borrow.Author.Rules.{rules}
 use Rattle.packet.proofs.reversed.Goals as goal
 
 pub returns : goal.returns

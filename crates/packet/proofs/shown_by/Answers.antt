@@ -2,7 +2,6 @@ use native.Mathlib.Omega.{arith}
 use Rattle.packet.specs.Addresses.{shown}
 use Rattle.coding.specs.Heard.{message_heard}
 use Rattle.coding.proofs.Heard.{small_good}
-use borrow.Author.Rules.{rules}
 use Rattle.packet.proofs.shown_by.Goals as goal
 
 pub overflow_mul-result : goal.overflow_mul-result

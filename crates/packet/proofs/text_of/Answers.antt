@@ -1,14 +1,13 @@
 use mathlib.Core.Path.{◌≡◌, refl, sym, ap, ◌∙◌}
-use Prim.Native.Nat.{ℕ, ◌+◌, ◌-◌, ◌≤◌, ◌<◌}
+use Prim.Native.Nat.{ℕ, ◌+◌}
 use native.Mathlib.Nat.{not-suc-le-zero}
 use native.Mathlib.Omega.{arith}
 use borrow.Author.Rules.{rules}
 use borrow.Author.Tests.{ne_eqb}
-use lib.ListN.{length, get_or}
+use lib.ListN.{get_or}
 use Rattle.laws.proofs.Lists.{stored_more}
 use Rattle.coding.specs.Bits.{turned_byte}
 use Rattle.grid.specs.Grid.{columns}
-use Rattle.packet.specs.Lines.{packet_length}
 use Rattle.packet.specs.Texts.{text_of, text_paper}
 use Rattle.packet.specs.declared.Text.{Text}
 use Rattle.packet.proofs.Bytes.{bytes_are}
@@ -23,14 +22,13 @@ pub loop-column-init : goal.loop-column-init
 loop-column-init c = (search rules, search rules, search rules, λ k h. absurd (not-suc-le-zero h))
 
 pub loop-column-preserved : goal.loop-column-preserved
-loop-column-preserved c =
-    let b = c in (
-      search rules,
-      search rules,
-      search rules,
-      stored_more (λ (k byte : ℕ). byte ≡ turned_byte (get_or b.args.packet.now (2 + k) 0))
-          b.loop-column.bytes b.loop-column.column _ 0 (search rules) b.loop-column.invariant.3 c.turned.ensures,
-    )
+loop-column-preserved c = (
+  search rules,
+  search rules,
+  search rules,
+  stored_more (λ (k byte : ℕ). byte ≡ turned_byte (get_or c.args.packet.now (2 + k) 0))
+      c.loop-column.bytes c.loop-column.column _ 0 (search rules) c.loop-column.invariant.3 c.turned.ensures,
+)
 
 pub returns : goal.returns
 returns c =

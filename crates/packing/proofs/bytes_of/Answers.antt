@@ -13,7 +13,7 @@ loop-left-init c = (search rules, refl, append-nil (bytes_of 8 (digits 64 c.args
 
 pub loop-left-preserved : goal.loop-left-preserved
 loop-left-preserved c =
-    let loop = c.before.loop-left in
+    let loop = c.loop-left in
     let one : loop.left - 1 + 1 ≡ loop.left = omega arith in
     let bits : 8 * (loop.left - 1) + 8 ≡ 8 * loop.left = omega arith in (
       search rules,
@@ -24,6 +24,6 @@ loop-left-preserved c =
 pub returns : goal.returns
 unfolding bytes_of
 returns c =
-    let loop = c.before.loop-left in
+    let loop = c.loop-left in
     let none : loop.left ≡ 0 = omega arith in
     rw none at loop.invariant.2

@@ -13,5 +13,4 @@ overflow_mul-result c = record { fits = omega (arith, and_le_r c.word_of.result 
 pub returns : goal.returns
 unfolding word total mask
 returns c =
-    let start = c.before in
-    first-bits-are start.args.marks (eight_bytes start.args.marks (search rules) (λ k. search rules)) c.word_of.result c.word_of.ensures
+    first-bits-are c.args.marks (eight_bytes c.args.marks (search rules) (λ k. search rules)) c.word_of.result c.word_of.ensures

@@ -13,11 +13,10 @@ overflow_mul-result c = record { fits = omega (arith, and_le_r c.word_of-2.resul
 pub overflow_add-result : goal.overflow_add-result
 unfolding word total
 overflow_add-result c =
-    record { fits = omega (arith, and_le_r c.before.word_of.result (over 127), and_le_r c.word_of-2.result (over 1)) }
+    record { fits = omega (arith, and_le_r c.word_of.result (over 127), and_le_r c.word_of-2.result (over 1)) }
 
 pub returns : goal.returns
 unfolding word total mask
 returns c =
-    let start = c.before.before in
-    last-bits-are start.args.marks (eight_bytes start.args.marks (search rules) (λ k. search rules)) c.word_of-2.result c.word_of-2.ensures
-    start.args.characters (eight_bytes start.args.characters (search rules) (λ k. search rules)) c.before.word_of.result c.before.word_of.ensures
+    last-bits-are c.args.marks (eight_bytes c.args.marks (search rules) (λ k. search rules)) c.word_of-2.result c.word_of-2.ensures
+    c.args.characters (eight_bytes c.args.characters (search rules) (λ k. search rules)) c.word_of.result c.word_of.ensures

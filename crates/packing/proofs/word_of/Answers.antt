@@ -14,23 +14,23 @@ unfolding binary bits_of
 loop-at-init c = (search rules, refl)
 
 pub overflow_mul-word : goal.overflow_mul-word
-overflow_mul-word c = record { fits = omega (arith, room c.before.before.args.bytes c.before.loop-at.at (search rules)) }
+overflow_mul-word c = record { fits = omega (arith, room c.args.bytes c.loop-at.at (search rules)) }
 
 pub overflow_add-word : goal.overflow_add-word
 overflow_add-word c =
-    let loop = c.before.before.loop-at in
-    record { fits = omega (arith, room c.before.before.before.args.bytes loop.at (search rules), c.wide.ensures.1) }
+    let loop = c.loop-at in
+    record { fits = omega (arith, room c.args.bytes loop.at (search rules), c.wide.ensures.1) }
 
 pub loop-at-preserved : goal.loop-at-preserved
 loop-at-preserved c =
-    let bytes = c.before.before.before.args.bytes in
-    let loop = c.before.before.loop-at in
+    let bytes = c.args.bytes in
+    let loop = c.loop-at in
     let byte = c.wide.ensures in
     let below = rw byte.0 at byte.1 in
     (search rules, rw (loop.invariant.1, byte.0) (one_more bytes loop.at (search rules) below))
 
 pub returns : goal.returns
 returns c =
-    let bytes = c.before.before.args.bytes in
-    let loop = c.before.loop-at in
+    let bytes = c.args.bytes in
+    let loop = c.loop-at in
     loop.invariant.1 ∙ ap (λ (xs : List ℕ). binary (bits_of xs)) (take_all loop.at bytes (search rules))

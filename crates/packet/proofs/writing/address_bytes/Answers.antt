@@ -1,5 +1,4 @@
 -- `packet::address_bytes` meets its contract: the bytes of its two messages.
-use borrow.Author.Rules.{rules}
 use Rattle.laws.proofs.Tabulated.{cons_is}
 use mathlib.Core.Path.{refl}
 use Rattle.packet.specs.Writing.{address_bytes, address_messages}

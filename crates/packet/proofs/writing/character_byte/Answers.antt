@@ -1,6 +1,5 @@
 -- `packet::character_byte` meets its contract: the byte of odd parity, turned.
 use mathlib.Core.Path.{ap, ◌∙◌}
-use borrow.Author.Rules.{rules}
 use Rattle.coding.specs.Bits.{turned_byte}
 use Rattle.packet.specs.Writing.{character_byte}
 use Rattle.packet.proofs.writing.character_byte.Goals as goal

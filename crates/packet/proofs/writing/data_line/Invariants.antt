@@ -1,14 +1,8 @@
-use mathlib.Core.Path.{◌≡◌, ◌∙◌}
-use mathlib.Core.List.{List}
-use Prim.Native.Nat.{ℕ, ◌+◌, ◌-◌, ◌≤◌}
-use native.Mathlib.Omega.{arith}
-use borrow.Author.Rules.{rules}
-use lib.ListN.{length, length-set, get_or, replicate, set}
-use lib.Seq.{paste, paste-zero}
-use Rattle.coding.specs.Bits.{framing_code}
-use Rattle.packet.specs.Lines.{framing_place, line_length, packet_length, packet_place}
-use Rattle.packet.specs.Writing.{data_line, run_in}
-use Rattle.packet.proofs.Filling.{copied, copied_more}
+use mathlib.Core.Path.{◌≡◌}
+use Prim.Native.Nat.{◌-◌, ◌≤◌}
+use lib.ListN.{length}
+use lib.Seq.{paste}
+use Rattle.packet.specs.Lines.{line_length, packet_length, packet_place}
 use Rattle.packet.proofs.writing.data_line.Given as goal
 
 abbrev pub invariant-loop-at : goal.invariant-loop-at

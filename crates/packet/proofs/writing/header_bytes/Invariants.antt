@@ -1,13 +1,10 @@
-use mathlib.Core.Path.{◌≡◌, ap, ◌∙◌}
+use mathlib.Core.Path.{◌≡◌}
 use mathlib.Core.List.{map}
-use Prim.Native.Nat.{◌+◌, ◌-◌, ◌≤◌}
-use native.Mathlib.Omega.{arith}
-use borrow.Author.Rules.{rules}
-use lib.ListN.{length, length-set, set}
-use lib.Seq.{paste, paste-zero}
+use Prim.Native.Nat.{◌-◌, ◌≤◌}
+use lib.ListN.{length}
+use lib.Seq.{paste}
 use Rattle.packet.specs.Texts.{header_column}
-use Rattle.packet.specs.Writing.{address_bytes, address_length, address_messages, header_bytes, header_length, message_byte}
-use Rattle.packet.proofs.Filling.{behind, filled, filled_more, started}
+use Rattle.packet.specs.Writing.{address_length, header_length, message_byte}
 use Rattle.packet.proofs.writing.header_bytes.Given as goal
 
 abbrev pub invariant-loop-at : goal.invariant-loop-at

@@ -1,14 +1,13 @@
 -- `packet::header_packet` meets its contract. In its loop a row's packet is pasted over with the header's bytes so far.
 use mathlib.Core.Path.{◌≡◌, sym, ap, ◌∙◌}
 use mathlib.Core.List.{List, ◌++◌, map}
-use Prim.Native.Nat.{ℕ, ◌+◌, ◌-◌, ◌≤◌}
+use Prim.Native.Nat.{ℕ}
 use native.Mathlib.Nat.{zero-add}
 use native.Mathlib.Omega.{arith}
 use borrow.Author.Rules.{rules}
-use lib.ListN.{length, length-set, drop, get_or, set}
+use lib.ListN.{length-set, drop, get_or, set}
 use lib.Seq.{paste, paste-zero, take_all}
 use Rattle.laws.proofs.Keeps.{drop_map}
-use Rattle.packet.specs.Lines.{packet_length}
 use Rattle.packet.specs.Texts.{header_column}
 use Rattle.packet.specs.Writing.{address_bytes, address_messages, character_byte, header_bytes, header_length, header_packet, row_packet}
 use Rattle.packet.proofs.Filling.{copied_more}
@@ -24,20 +23,18 @@ loop-at-init c = (search rules, search rules, search rules, search rules, paste-
 
 pub loop-at-preserved : goal.loop-at-preserved
 loop-at-preserved c =
-    let b = c in
-    let bytes = b.header_bytes-bytes.result in (
+    let bytes = c.header_bytes-bytes.result in (
       search rules,
       search rules,
       search rules,
-      simp length-set b.loop-at.invariant.3,
-      (λ i. set (b.loop-at.invariant.4 i) (sym (zero-add b.loop-at.at) i) (get_or bytes b.loop-at.at 0))
-          ∙ copied_more b.row_packet-packet.result 0 bytes b.loop-at.at (omega arith) (omega arith),
+      simp length-set c.loop-at.invariant.3,
+      (λ i. set (c.loop-at.invariant.4 i) (sym (zero-add c.loop-at.at) i) (get_or bytes c.loop-at.at 0))
+          ∙ copied_more c.row_packet-packet.result 0 bytes c.loop-at.at (omega arith) (omega arith),
     )
 
 pub returns : goal.returns
 unfolding header_packet
 returns c =
-    let start = c in
     let loop = c.loop-at in
     let bytes = c.header_bytes-bytes.result in
     let packet = c.row_packet-packet.result in
@@ -45,4 +42,4 @@ returns c =
     ∙ (ap (paste packet 0 bytes) (let end : loop.at ≡ header_length = omega arith in end)
     ∙ ((λ i. take_all header_length bytes (omega arith) i ++ drop header_length packet)
     ∙ ((λ i. c.header_bytes-bytes.ensures i ++ drop header_length (c.row_packet-packet.ensures i))
-    ∙ ap (λ (text : List ℕ). header_bytes start.args.magazine start.args.header ++ text) (text_left start.args.magazine 0 start.args.characters))))
+    ∙ ap (λ (text : List ℕ). header_bytes c.args.magazine c.args.header ++ text) (text_left c.args.magazine 0 c.args.characters))))

@@ -1,6 +1,5 @@
 -- `packet::message_byte` meets its contract: the Hamming byte, turned.
 use mathlib.Core.Path.{ap, ◌∙◌}
-use borrow.Author.Rules.{rules}
 use Rattle.coding.specs.Bits.{turned_byte}
 use Rattle.packet.specs.Writing.{message_byte}
 use Rattle.packet.proofs.writing.message_byte.Goals as goal

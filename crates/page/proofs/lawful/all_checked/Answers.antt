@@ -1,25 +1,18 @@
 use mathlib.Core.Path.{◌≡◌, refl, ◌∙◌, ap, sym}
-use mathlib.Core.Bool.{Bool, not, ◌&&◌}
-use Prim.Native.Nat.{◌-◌, ◌≤◌}
+use mathlib.Core.Bool.{Bool, not}
 use native.Mathlib.Omega.{arith}
 use borrow.Author.Rules.{rules}
-use lib.ListN.{length, drop}
-use Rattle.laws.specs.Every.{every_pair}
-use Rattle.grid.specs.Grid.{cell_count}
-use Rattle.page.specs.Lawful.{cell_lawful, cells_fit, cells_lawful}
+use Rattle.page.specs.Lawful.{cells_fit, cells_lawful}
 use Rattle.page.specs.Records.{cells_of}
 use Rattle.page.specs.declared.Cells.{Cells}
 use Rattle.page.proofs.Checks.{answer-large, answer-lawful, answer-unlawful, fit-last, fit-more, large, lawful_first, lawful-last, lawful-more, wrong}
 use Rattle.page.proofs.lawful.all_checked.Goals as goal
-use Rattle.page.proofs.lawful.all_checked.Goals.{After-loop-at, Start}
+use Rattle.page.proofs.lawful.all_checked.Goals.{After-loop-at}
 
 -- after the loop: the flags are the answers
 module _ (c : After-loop-at) where
-  abbrev args : Start
-  args = c.before.before.before.before.before.before
-
   cells : Cells
-  cells = cells_of args.args.characters.now args.args.marks.now
+  cells = cells_of c.args.characters.now c.args.marks.now
 
   too_large : Bool
   too_large = large c.loop-at.character_bits c.loop-at.highest
@@ -51,18 +44,20 @@ loop-at-preserved c =
 
 pub returns-then-character_bits-highest : goal.returns-then-character_bits-highest
 unfolding cells too_large
-returns-then-character_bits-highest c = sym (answer-large (cells (goal.at.returns-then-character_bits-highest c).After-loop-at) (fit (goal.at.returns-then-character_bits-highest c).After-loop-at ∙ ap not c.if-character_bits-highest.true))
+returns-then-character_bits-highest c =
+    let loop = (goal.at.returns-then-character_bits-highest c).After-loop-at in
+    sym (answer-large (cells loop) (fit loop ∙ ap not c.if-character_bits-highest.true))
 
 pub returns-then-unlawful-highest : goal.returns-then-unlawful-highest
 unfolding cells too_large
 returns-then-unlawful-highest c =
-    let loop = c.before.before in
-    let fits = fit (goal.at.returns-then-unlawful-highest c).After-loop-at ∙ ap not c.if-character_bits-highest.false in
-    sym (answer-unlawful (cells (goal.at.returns-then-unlawful-highest c).After-loop-at) fits (lawful (goal.at.returns-then-unlawful-highest c).After-loop-at ∙ ap not c.if-unlawful-highest.true))
+    let loop = (goal.at.returns-then-unlawful-highest c).After-loop-at in
+    let fits = fit loop ∙ ap not c.if-character_bits-highest.false in
+    sym (answer-unlawful (cells loop) fits (lawful loop ∙ ap not c.if-unlawful-highest.true))
 
 pub returns : goal.returns
 unfolding cells too_large
 returns c =
-    let loop = c.before.before in
-    let fits = fit (goal.at.returns c).After-loop-at ∙ ap not c.if-character_bits-highest.false in
-    sym (answer-lawful (cells (goal.at.returns c).After-loop-at) fits (lawful (goal.at.returns c).After-loop-at ∙ ap not c.if-unlawful-highest.false))
+    let loop = (goal.at.returns c).After-loop-at in
+    let fits = fit loop ∙ ap not c.if-character_bits-highest.false in
+    sym (answer-lawful (cells loop) fits (lawful loop ∙ ap not c.if-unlawful-highest.false))

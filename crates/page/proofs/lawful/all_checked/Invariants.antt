@@ -1,15 +1,12 @@
-use mathlib.Core.Path.{◌≡◌, refl, ◌∙◌, ap, sym}
-use mathlib.Core.Bool.{Bool, not, ◌&&◌}
+use mathlib.Core.Path.{◌≡◌}
+use mathlib.Core.Bool.{not, ◌&&◌}
 use Prim.Native.Nat.{◌-◌, ◌≤◌}
-use native.Mathlib.Omega.{arith}
-use borrow.Author.Rules.{rules}
 use lib.ListN.{length, drop}
 use Rattle.laws.specs.Every.{every_pair}
 use Rattle.grid.specs.Grid.{cell_count}
 use Rattle.page.specs.Lawful.{cell_lawful, cells_fit, cells_lawful}
 use Rattle.page.specs.Records.{cells_of}
-use Rattle.page.specs.declared.Cells.{Cells}
-use Rattle.page.proofs.Checks.{answer-large, answer-lawful, answer-unlawful, fit-last, fit-more, large, lawful_first, lawful-last, lawful-more, wrong}
+use Rattle.page.proofs.Checks.{large, wrong}
 use Rattle.page.proofs.lawful.all_checked.Given as goal
 
 abbrev pub invariant-loop-at : goal.invariant-loop-at

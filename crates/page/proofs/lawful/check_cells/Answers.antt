@@ -1,6 +1,5 @@
 use mathlib.Core.Path.{ap}
 use Rattle.page.specs.Lawful.{cells_paper}
-use borrow.Author.Rules.{rules}
 use Rattle.page.proofs.lawful.check_cells.Goals as goal
 
 pub returns : goal.returns

@@ -1,12 +1,8 @@
 use mathlib.Core.Path.{◌≡◌, refl}
-use mathlib.Core.Bool.{not}
-use Prim.Native.Nat.{◌-◌, ◌≤◌}
 use native.Mathlib.Omega.{arith}
 use borrow.Author.Rules.{rules}
-use lib.ListN.{length, take}
 use Rattle.laws.specs.Every.{every}
 use Rattle.packet.specs.Texts.{header_column}
-use Rattle.page.specs.Lawful.{is_never}
 use Rattle.page.proofs.Checks.{marked_more}
 use Rattle.page.proofs.lawful.header_columns_marked.Goals as goal
 

@@ -1,13 +1,10 @@
-use mathlib.Core.Path.{◌≡◌, refl}
+use mathlib.Core.Path.{◌≡◌}
 use mathlib.Core.Bool.{not}
 use Prim.Native.Nat.{◌-◌, ◌≤◌}
-use native.Mathlib.Omega.{arith}
-use borrow.Author.Rules.{rules}
 use lib.ListN.{length, take}
 use Rattle.laws.specs.Every.{every}
 use Rattle.packet.specs.Texts.{header_column}
 use Rattle.page.specs.Lawful.{is_never}
-use Rattle.page.proofs.Checks.{marked_more}
 use Rattle.page.proofs.lawful.header_columns_marked.Given as goal
 
 abbrev pub invariant-loop-column : goal.invariant-loop-column

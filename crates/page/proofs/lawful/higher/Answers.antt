@@ -4,11 +4,7 @@ use borrow.Author.Tests.{le-leb, lt-leb}
 use Rattle.page.proofs.lawful.higher.Goals as goal
 
 pub returns-then-mark-highest : goal.returns-then-mark-highest
-returns-then-mark-highest c =
-    let a = c.args in
-    rw (le-leb (suc a.highest) a.mark (omega arith))
+returns-then-mark-highest c = rw (le-leb (suc c.args.highest) c.args.mark (omega arith))
 
 pub returns-else-mark-highest : goal.returns-else-mark-highest
-returns-else-mark-highest c =
-    let a = c.args in
-    rw (lt-leb (suc a.highest) a.mark (omega arith))
+returns-else-mark-highest c = rw (lt-leb (suc c.args.highest) c.args.mark (omega arith))

@@ -1,10 +1,10 @@
 use mathlib.Core.Path.{◌≡◌, refl, ◌∙◌, ap, sym}
 use mathlib.Core.List.{[], ◌∷◌, ◌++◌}
-use Prim.Native.Nat.{ℕ, ◌+◌, ◌-◌, ◌≤◌}
+use Prim.Native.Nat.{ℕ, ◌+◌}
 use native.Mathlib.Numerals.{add-one}
 use native.Mathlib.Omega.{arith}
 use borrow.Author.Rules.{rules}
-use lib.ListN.{length, length-drop, length-set, get_or, take, drop}
+use lib.ListN.{length-drop, length-set, get_or, take, drop}
 use lib.Seq.{get_or-drop, take_all, take-suc, take-suc-set}
 use Rattle.packing.specs.Cells.{group_cells}
 use Rattle.page.proofs.parts.eight_at.Goals as goal

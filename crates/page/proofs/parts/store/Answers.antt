@@ -1,10 +1,9 @@
 use mathlib.Core.Path.{◌≡◌, refl, ◌∙◌}
-use Prim.Native.Nat.{◌-◌, ◌≤◌}
 use native.Mathlib.Numerals.{add-one}
 use native.Mathlib.Omega.{arith}
 use borrow.Author.Rules.{rules}
 use lib.ListN.{length, length-set}
-use lib.Seq.{paste, paste-suc, paste-zero, take_all}
+use lib.Seq.{paste-suc, paste-zero, take_all}
 use Rattle.page.proofs.parts.store.Goals as goal
 
 pub loop-k-init : goal.loop-k-init

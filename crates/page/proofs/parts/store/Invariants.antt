@@ -1,10 +1,7 @@
-use mathlib.Core.Path.{◌≡◌, refl, ◌∙◌}
+use mathlib.Core.Path.{◌≡◌}
 use Prim.Native.Nat.{◌-◌, ◌≤◌}
-use native.Mathlib.Numerals.{add-one}
-use native.Mathlib.Omega.{arith}
-use borrow.Author.Rules.{rules}
-use lib.ListN.{length, length-set}
-use lib.Seq.{paste, paste-suc, paste-zero, take_all}
+use lib.ListN.{length}
+use lib.Seq.{paste}
 use Rattle.page.proofs.parts.store.Given as goal
 
 abbrev pub invariant-loop-k : goal.invariant-loop-k

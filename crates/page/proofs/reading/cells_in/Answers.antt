@@ -1,12 +1,12 @@
 use mathlib.Core.Path.{◌≡◌, refl, ◌∙◌, ap}
 use mathlib.Core.List.{List}
-use Prim.Native.Nat.{ℕ, ◌+◌, ◌*◌, ◌-◌, ◌≤◌}
+use Prim.Native.Nat.{ℕ, ◌*◌}
 use native.Mathlib.Omega.{arith}
 use borrow.Author.Rules.{rules}
 use lib.ListN.{length, replicate, take, drop}
 use Rattle.laws.proofs.Runs.{over}
-use Rattle.grid.specs.Grid.{cell_count, rows}
-use Rattle.packing.specs.Cells.{cell_fields, characters_from, group_bytes, group_cells, marks_from}
+use Rattle.grid.specs.Grid.{cell_count}
+use Rattle.packing.specs.Cells.{group_cells}
 use Rattle.packing.specs.declared.EightCells.{EightCells}
 use Rattle.page.specs.Lawful.{never, space}
 use Rattle.page.specs.Private.{row_groups}
@@ -51,39 +51,38 @@ loop-group-init c = (search rules, search rules, search rules, search rules, ref
 
 pub store-requires : goal.store-requires
 store-requires c =
-    let read = c.before.before.before.before in
-    omega (arith, eight-characters (goal.at.store-requires c).After-unpacked-eight, eight-marks (goal.at.store-requires c).After-unpacked-eight)
+    let read = (goal.at.store-requires c).After-unpacked-eight in
+    omega (arith, eight-characters read, eight-marks read)
 
 pub store-requires-in-loop-group : goal.store-requires-in-loop-group
 store-requires-in-loop-group c =
-    let read = c.before.before.before.before.before.before.before.before in
-    omega (arith, eight-characters (goal.at.store-requires-in-loop-group c).After-unpacked-eight, eight-marks (goal.at.store-requires-in-loop-group c).After-unpacked-eight)
+    let read = (goal.at.store-requires-in-loop-group c).After-unpacked-eight in
+    omega (arith, eight-characters read, eight-marks read)
 
 pub loop-group-preserved : goal.loop-group-preserved
 loop-group-preserved c =
-    let read = c.before.before.before.before.before.before.before.before.before.before in
-    let loop = read.loop-group in
+    let read = (goal.at.loop-group-preserved c).After-unpacked-eight in
+    let loop = c.loop-group in
     let record-long = loop.invariant.3 in
-    let characters-long = length-all-characters (groups (goal.at.loop-group-preserved c).After-unpacked-eight) head_length (bytes (goal.at.loop-group-preserved c).After-unpacked-eight) record-long in
-    let marks-long = length-all-marks (groups (goal.at.loop-group-preserved c).After-unpacked-eight) head_length (bytes (goal.at.loop-group-preserved c).After-unpacked-eight) record-long in (
+    let characters-long = length-all-characters (groups read) head_length (bytes read) record-long in
+    let marks-long = length-all-marks (groups read) head_length (bytes read) record-long in (
       search rules,
       search rules,
       search rules,
       search rules,
       search rules,
       search rules,
-      eight_laid _ (all_characters (groups (goal.at.loop-group-preserved c).After-unpacked-eight) (bytes (goal.at.loop-group-preserved c).After-unpacked-eight)) (here (goal.at.loop-group-preserved c).After-unpacked-eight) (omega arith) loop.characters _ (eight (goal.at.loop-group-preserved c).After-unpacked-eight).characters (eight-characters (goal.at.loop-group-preserved c).After-unpacked-eight) (read-characters (goal.at.loop-group-preserved c).After-unpacked-eight) loop.invariant.6
+      eight_laid _ (all_characters (groups read) (bytes read)) (here read) (omega arith) loop.characters _ (eight read).characters (eight-characters read) (read-characters read) loop.invariant.6
           c.store.ensures,
-      eight_laid _ (all_marks (groups (goal.at.loop-group-preserved c).After-unpacked-eight) (bytes (goal.at.loop-group-preserved c).After-unpacked-eight)) (here (goal.at.loop-group-preserved c).After-unpacked-eight) (omega arith) loop.marks _ (eight (goal.at.loop-group-preserved c).After-unpacked-eight).marks (eight-marks (goal.at.loop-group-preserved c).After-unpacked-eight) (read-marks (goal.at.loop-group-preserved c).After-unpacked-eight) loop.invariant.7 c.store-in-loop-group.ensures,
+      eight_laid _ (all_marks (groups read) (bytes read)) (here read) (omega arith) loop.marks _ (eight read).marks (eight-marks read) (read-marks read) loop.invariant.7 c.store-in-loop-group.ensures,
     )
 
 pub returns : goal.returns
 returns c =
-    let start = c in
-    let «record» = start.args.«record».now in
-    let groups = start.args.count * row_groups in
+    let «record» = c.args.«record».now in
+    let groups = c.args.count * row_groups in
     let loop = c.loop-group in
     let end : loop.group ≡ groups = omega arith in
-    laid_filled start.args.count groups loop.invariant.4 «record» loop.characters loop.marks
+    laid_filled c.args.count groups loop.invariant.4 «record» loop.characters loop.marks
     (loop.invariant.6 ∙ ap (λ (k : ℕ). over (replicate cell_count space) (all_characters groups «record») (k * group_cells)) end)
     (loop.invariant.7 ∙ ap (λ (k : ℕ). over (replicate cell_count never) (all_marks groups «record») (k * group_cells)) end)

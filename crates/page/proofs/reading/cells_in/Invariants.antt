@@ -1,17 +1,12 @@
-use mathlib.Core.Path.{◌≡◌, refl, ◌∙◌, ap}
+use mathlib.Core.Path.{◌≡◌}
 use mathlib.Core.List.{List}
 use Prim.Native.Nat.{ℕ, ◌+◌, ◌*◌, ◌-◌, ◌≤◌}
-use native.Mathlib.Omega.{arith}
-use borrow.Author.Rules.{rules}
-use lib.ListN.{length, replicate, take, drop}
+use lib.ListN.{length, drop}
 use Rattle.laws.proofs.Runs.{over}
 use Rattle.grid.specs.Grid.{cell_count, rows}
 use Rattle.packing.specs.Cells.{cell_fields, characters_from, group_bytes, group_cells, marks_from}
-use Rattle.packing.specs.declared.EightCells.{EightCells}
-use Rattle.page.specs.Lawful.{never, space}
 use Rattle.page.specs.Private.{row_groups}
 use Rattle.page.specs.Records.{head_length}
-use Rattle.page.proofs.Loading.{characters_read, eight_laid, laid_filled, length-all-characters, length-all-marks, marks_read}
 use Rattle.page.proofs.reading.cells_in.Given as goal
 
 -- what the cells of so many groups will be

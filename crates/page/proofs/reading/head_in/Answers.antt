@@ -1,5 +1,4 @@
 use Rattle.page.proofs.Heads.{head_of_word}
-use borrow.Author.Rules.{rules}
 use Rattle.page.proofs.reading.head_in.Goals as goal
 
 pub returns : goal.returns

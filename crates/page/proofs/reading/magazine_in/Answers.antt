@@ -1,6 +1,5 @@
 use borrow.Author.Tests.{eq-eqb, ne_eqb}
 use Rattle.page.specs.Records.{magazine_from}
-use borrow.Author.Rules.{rules}
 use Rattle.page.proofs.reading.magazine_in.Goals as goal
 
 pub returns-then-value-eq0 : goal.returns-then-value-eq0

@@ -1,38 +1,26 @@
 use mathlib.Core.Path.{◌≡◌, ◌∙◌, ap, sym}
 use mathlib.Core.Bool.{true}
-use mathlib.Core.List.{[], ◌∷◌}
-use mathlib.Core.Logic.{⊎_elim}
 use Prim.Native.Nat.{◌*◌}
-use native.Mathlib.Omega.{arith}
-use denote.Enum.Declared.{tag_of}
 use lib.ListN.{drop}
-use types.Run.{OneOf}
 use Rattle.grid.specs.Grid.{columns}
 use Rattle.packing.specs.Cells.{cell_fields}
 use Rattle.page.specs.Lawful.{cells_checked, cells_fit}
 use Rattle.page.specs.Reading.{filled}
 use Rattle.page.specs.Records.{cells_from, head_length}
 use Rattle.page.specs.declared.Cells.{Cells}
-use Rattle.page.specs.declared.CellsCheck.{CellsCheck}
-use Rattle.page.specs.declared.CellsCheck.TheVariants.{Lawful}
 use Rattle.page.specs.declared.ReadAnswer.TheVariants.{Read}
-use Rattle.page.specs.contracts.CellsCheck.{the_type}
 use Rattle.page.proofs.AnyRows.{whole_cells}
 use Rattle.page.proofs.Checks.{lawful_shown, unlawful_shown}
 use Rattle.page.proofs.Filled.{filled-fits}
 use Rattle.page.proofs.Papers.{check_is}
 use Rattle.page.proofs.Forms.{cells_fit_here, headed, length_back}
-use borrow.Author.Rules.{rules}
 use Rattle.page.proofs.reading.with_cells.Goals as goal
-use Rattle.page.proofs.reading.with_cells.Goals.{After-check_cells, Start}
+use Rattle.page.proofs.reading.with_cells.Goals.{After-check_cells}
 
 -- the cells as they are read
 module _ (c : After-check_cells) where
-  abbrev start : Start
-  start = c.before.before.before.before.before.before.before.before
-
   cells-read : Cells
-  cells-read = filled (cells_from (cell_fields (start.args.count * columns) (drop head_length start.args.«record».now)))
+  cells-read = filled (cells_from (cell_fields (c.args.count * columns) (drop head_length c.args.«record».now)))
 
   cells_are : c.cells_in-cells.result ≡ cells-read
   unfolding cells-read
@@ -44,16 +32,16 @@ module _ (c : After-check_cells) where
   fit : cells_fit cells-read ≡ true
   unfolding cells-read
   fit =
-      let n = start.args.count in
-      let bytes = start.args.«record».now in
-      filled-fits n start.requires.1 (cells_from (cell_fields (n * columns) (drop head_length bytes))) (whole_cells n (drop head_length bytes))
-      (cells_fit_here n (drop head_length bytes) (length_back n bytes start.requires.0))
+      let n = c.args.count in
+      let bytes = c.args.«record».now in
+      filled-fits n c.requires.1 (cells_from (cell_fields (n * columns) (drop head_length bytes))) (whole_cells n (drop head_length bytes))
+      (cells_fit_here n (drop head_length bytes) (length_back n bytes c.requires.0))
 
 pub returns-in_default : goal.returns-in_default
 unfolding cells-read
 returns-in_default c =
-    let k = c.before.before in
-    let unlawful = unlawful_shown (cells-read (goal.at.returns-in_default c).After-check_cells) (fit (goal.at.returns-in_default c).After-check_cells) k.check_cells.result (checked (goal.at.returns-in_default c).After-check_cells) c.in_default.not-Lawful in
+    let k = (goal.at.returns-in_default c).After-check_cells in
+    let unlawful = unlawful_shown (cells-read k) (fit k) c.check_cells.result (checked k) c.in_default.not-Lawful in
     c.refused.ensures ∙ (rw unlawful)
 
 pub returns : goal.returns

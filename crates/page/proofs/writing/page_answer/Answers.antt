@@ -1,6 +1,5 @@
 use mathlib.Core.Path.{◌≡◌, ◌∙◌, ap, sym}
 use mathlib.Core.Bool.{Bool, ◌&&◌}
-use borrow.Author.Tests.{not-false, not-true}
 use lib.Dec.{leb}
 use Rattle.page.specs.Lawful.{header_fits, magazine_fits}
 use Rattle.page.specs.Private.{parts_answer}
@@ -10,25 +9,19 @@ use Rattle.page.specs.declared.CellsCheck.TheVariants.{Lawful, TooLarge, Unlawfu
 use Rattle.page.specs.declared.WriteAnswer.{WriteAnswer}
 use Rattle.page.proofs.Papers.{check_is}
 use Rattle.page.proofs.Answers.{answer_by, by-check, large-head}
-use borrow.Author.Rules.{rules}
 use Rattle.page.proofs.writing.page_answer.Goals as goal
-use Rattle.page.proofs.writing.page_answer.Goals.{After-check_cells, After-header_fits, Start}
+use Rattle.page.proofs.writing.page_answer.Goals.{After-check_cells, After-header_fits}
 
 -- what was asked of the magazine and the header
-head-asked : (c : After-header_fits) → let args = c.args in
-    ((leb 1 args.magazine && leb args.magazine 8) && c.header_fits.result) ≡ (magazine_fits args.magazine && header_fits args.header)
+head-asked : (c : After-header_fits)
+    → ((leb 1 c.args.magazine && leb c.args.magazine 8) && c.header_fits.result) ≡ (magazine_fits c.args.magazine && header_fits c.args.header)
 unfolding magazine_fits
-head-asked c =
-    let args = c.args in
-    ap (λ (b : Bool). (leb 1 args.magazine && leb args.magazine 8) && b) c.header_fits.ensures
+head-asked c = ap (λ (b : Bool). (leb 1 c.args.magazine && leb c.args.magazine 8) && b) c.header_fits.ensures
 
 -- the page's answer goes by the check of its cells and of its digits
 module _ (c : After-check_cells) where
-  abbrev parts : Start
-  parts = c.before.before.before.before
-
   abbrev answer : WriteAnswer
-  answer = parts_answer parts.args.magazine parts.args.header (cells_of parts.args.characters.now parts.args.marks.now)
+  answer = parts_answer c.args.magazine c.args.header (cells_of c.args.characters.now c.args.marks.now)
 
   by-cells : (check : CellsCheck) → c.check_cells.result ≡ check → answer_by check c.digits_lawful-digits.result ≡ answer
   by-cells check e =

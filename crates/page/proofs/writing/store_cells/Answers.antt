@@ -1,9 +1,8 @@
 use mathlib.Core.Path.{◌≡◌, refl, ◌∙◌}
-use Prim.Native.Nat.{◌*◌, ◌-◌, ◌≤◌}
 use native.Mathlib.Omega.{arith}
 use borrow.Author.Rules.{rules}
 use lib.ListN.{length, length-set}
-use lib.Seq.{paste, paste-zero}
+use lib.Seq.{paste-zero}
 use Rattle.grid.specs.Grid.{cell_count}
 use Rattle.packing.specs.Cells.{cell_bytes, group_bytes, group_cells, nine_from}
 use Rattle.page.specs.Private.{cells_length, group_count}

@@ -1,14 +1,11 @@
-use mathlib.Core.Path.{◌≡◌, refl, ◌∙◌}
+use mathlib.Core.Path.{◌≡◌}
 use Prim.Native.Nat.{◌*◌, ◌-◌, ◌≤◌}
-use native.Mathlib.Omega.{arith}
-use borrow.Author.Rules.{rules}
-use lib.ListN.{length, length-set}
-use lib.Seq.{paste, paste-zero}
+use lib.ListN.{length}
+use lib.Seq.{paste}
 use Rattle.grid.specs.Grid.{cell_count}
-use Rattle.packing.specs.Cells.{cell_bytes, group_bytes, group_cells, nine_from}
+use Rattle.packing.specs.Cells.{cell_bytes, group_bytes}
 use Rattle.page.specs.Private.{cells_length, group_count}
 use Rattle.page.specs.Records.{head_length}
-use Rattle.page.proofs.Storing.{all-stored, group-stored}
 use Rattle.page.proofs.writing.store_cells.Given as goal
 
 abbrev pub invariant-loop-group : goal.invariant-loop-group

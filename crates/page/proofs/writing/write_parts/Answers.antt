@@ -1,21 +1,15 @@
 use mathlib.Core.Path.{◌≡◌, refl, ◌∙◌, ap, sym}
-use mathlib.Core.List.{List, [], ◌∷◌, ◌++◌}
-use mathlib.Core.Logic.{⊎_elim}
+use mathlib.Core.List.{List, ◌++◌}
 use Prim.Native.Nat.{ℕ}
 use native.Mathlib.Nat.{zero-add}
-use native.Mathlib.Omega.{arith}
 use borrow.Author.Tests.{lt-leb}
-use denote.Enum.Declared.{tag_of}
 use lib.ListN.{length, drop}
-use types.Run.{OneOf}
 use Rattle.page.specs.Records.{cells_of, page_of}
 use Rattle.page.specs.Writing.{buffer_after, write_answer}
 use Rattle.page.specs.declared.Page.{Page}
 use Rattle.page.specs.declared.WriteAnswer.{WriteAnswer}
 use Rattle.page.specs.declared.WriteAnswer.TheVariants.{Written, ShortRecord, TooLarge, BadDigit, UnlawfulCells}
-use Rattle.page.specs.contracts.WriteAnswer.{the_type}
 use Rattle.page.proofs.WriterSteps.{answered, long-answer, record-stored}
-use borrow.Author.Rules.{rules}
 use Rattle.page.proofs.writing.write_parts.Goals as goal
 use Rattle.page.proofs.writing.write_parts.Goals.{After-page_answer-answer, Start}
 
