@@ -18,7 +18,6 @@ use Rattle.receiver.specs.Cells.{how_many, row_found}
 use Rattle.receiver.specs.Entries.{is_zero, lawful, state_lawful, state_of}
 use Rattle.receiver.specs.Effects.{Outcome, closed, doubted, effected, header_taken, just_closed, shut, taken, text_taken, unclosed, unsure_taken}
 use Rattle.receiver.specs.Selections.{matches}
-use Rattle.receiver.specs.declared.Closing.TheVariants as closing
 use Rattle.receiver.specs.declared.Receiver.{Receiver}
 use Rattle.receiver.specs.declared.kinds.Effect.{Effect}
 use Rattle.receiver.specs.declared.kinds.Effect.TheVariants.{Nothing, Store, Open, Close, Doubt}

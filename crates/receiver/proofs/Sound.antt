@@ -7,7 +7,7 @@ use Prim.Native.Nat.{ℕ, zero, suc, ◌%◌, ◌≤◌}
 use native.Mathlib.Nat.{mod-lt}
 use native.Mathlib.Omega.{arith}
 use lib.Count.{ones}
-use lib.Dec.{T, eqb, eqb→eq, lit<, lit≤, lt→ltb}
+use lib.Dec.{T, eqb→eq, lit<, lit≤, lt→ltb}
 use lib.ListN.{drop, take}
 use Rattle.laws.specs.Every.{every, every_pair}
 use Rattle.laws.specs.Fields.{fits}

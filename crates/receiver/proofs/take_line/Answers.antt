@@ -2,7 +2,7 @@ use mathlib.Core.Path.{◌≡◌, sym, ap, ◌∙◌, subst}
 use mathlib.Core.List.{List}
 use Prim.Native.Nat.{ℕ}
 use lib.ListN.{length}
-use Rattle.packet.specs.Lines.{framed, packet_length, packet_of}
+use Rattle.packet.specs.Lines.{framed, packet_of}
 use Rattle.receiver.specs.Entries.{Entered, line_by, line_entered}
 use Rattle.receiver.specs.Mended.{mended_in, packet_mended}
 use Rattle.receiver.specs.Private.{joined, line_asked, standing_of}

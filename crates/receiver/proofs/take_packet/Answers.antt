@@ -1,7 +1,6 @@
 use mathlib.Core.Path.{◌≡◌, refl, sym, ap, ◌∙◌, subst}
 use mathlib.Core.List.{List}
 use Prim.Native.Nat.{ℕ}
-use lib.ListN.{length}
 use Rattle.receiver.specs.Entries.{Entered, packet_entered, packet_taken}
 use Rattle.receiver.specs.Mended.{mended_in, packet_mended}
 use Rattle.receiver.specs.Private.{joined, packet_asked, standing_of}

@@ -5,7 +5,6 @@ use Rattle.receiver.specs.declared.effects.Standing.{Standing}
 use Rattle.receiver.proofs.Asked.{fine}
 use Rattle.receiver.proofs.Playing.{plays-nothing}
 use Rattle.receiver.proofs.Turns.{recording-played, recording-refused}
-use borrow.Author.Rules.{rules}
 use Rattle.receiver.proofs.take_recording.Goals as goal
 
 -- a receiver, taken apart and joined

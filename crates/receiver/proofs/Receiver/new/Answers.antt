@@ -1,8 +1,6 @@
 use mathlib.Core.Path.{refl, sym, ◌∙◌}
-use borrow.Author.Tests.{not-true, not-false}
 use Rattle.receiver.specs.Entries.{made, made_answer}
 use Rattle.receiver.specs.Selections.{selected_paper}
-use borrow.Author.Rules.{rules}
 use Rattle.receiver.proofs.Receiver.new.Goals as goal
 
 pub returns-then-not-in_range : goal.returns-then-not-in_range

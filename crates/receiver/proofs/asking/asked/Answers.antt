@@ -1,7 +1,6 @@
 use mathlib.Core.Path.{sym, ◌∙◌}
-use borrow.Author.Tests.{le-ltb, lt-ltb, not-false, not-true}
+use borrow.Author.Tests.{le-ltb, lt-ltb}
 use Rattle.receiver.specs.Private.{asked_of}
-use borrow.Author.Rules.{rules}
 use Rattle.receiver.proofs.asking.asked.Goals as goal
 
 pub returns-then-not-is_lawful : goal.returns-then-not-is_lawful

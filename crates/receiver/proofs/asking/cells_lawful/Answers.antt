@@ -1,6 +1,5 @@
 use Rattle.page.specs.declared.CellsCheck.TheVariants.{Lawful, TooLarge, Unlawful}
 use Rattle.receiver.proofs.Asked.{asked_cells}
-use borrow.Author.Rules.{rules}
 use Rattle.receiver.proofs.asking.cells_lawful.Goals as goal
 
 pub returns-in-Lawful : goal.returns-in-Lawful

@@ -1,7 +1,6 @@
 use Rattle.receiver.specs.Entries.{state_lawful}
 use Rattle.receiver.specs.Private.{joined}
 use Rattle.receiver.proofs.Asked.{all_asked}
-use borrow.Author.Rules.{rules}
 use Rattle.receiver.proofs.asking.is_lawful.Goals as goal
 
 pub returns : goal.returns

@@ -1,7 +1,6 @@
 use mathlib.Core.Path.{sym, ap, ◌∙◌}
 use Rattle.packet.proofs.Whole.{framed_is}
 use Rattle.receiver.specs.Private.{asked_by, line_asked}
-use borrow.Author.Rules.{rules}
 use Rattle.receiver.proofs.asking.line_asked.Goals as goal
 
 pub returns-in-Packet : goal.returns-in-Packet

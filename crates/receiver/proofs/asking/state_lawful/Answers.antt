@@ -1,5 +1,4 @@
 use Rattle.receiver.specs.Entries.{state_of}
-use borrow.Author.Rules.{rules}
 use Rattle.receiver.proofs.asking.state_lawful.Goals as goal
 
 pub returns-then-is_open : goal.returns-then-is_open

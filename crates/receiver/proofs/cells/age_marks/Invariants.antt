@@ -1,12 +1,5 @@
-use mathlib.Core.Path.{sym, ap, ◌∙◌}
-use native.Mathlib.Nat.{not-suc-le-zero}
-use lib.Seq.{get_or-set_other}
-use Rattle.laws.proofs.Lists.{stored_more}
-use Rattle.laws.proofs.Maps.{map_is}
-use mathlib.Core.Path.{◌≡◌, refl}
+use mathlib.Core.Path.{◌≡◌}
 use Prim.Native.Nat.{ℕ, ◌-◌, ◌≤◌, ◌<◌}
-use native.Mathlib.Omega.{arith}
-use borrow.Author.Rules.{rules}
 use lib.ListN.{length, get_or}
 use Rattle.grid.specs.Grid.{cell_count}
 use Rattle.receiver.specs.Cells.{age}

@@ -1,6 +1,5 @@
 use Rattle.coding.specs.Heard.{character_heard}
 use Rattle.receiver.specs.Cells.{kept_mark}
-use borrow.Author.Rules.{rules}
 use Rattle.receiver.proofs.cells.kept_mark.Goals as goal
 
 pub returns-in-Good : goal.returns-in-Good

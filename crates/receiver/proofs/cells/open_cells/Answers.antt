@@ -3,7 +3,6 @@ use mathlib.Core.Bool.{Bool, cond}
 use Rattle.page.specs.Records.{cells_of}
 use Rattle.receiver.specs.Cells.{aged, blank}
 use Rattle.receiver.specs.Effects.{opening_cells}
-use borrow.Author.Rules.{rules}
 use Rattle.receiver.proofs.cells.open_cells.Goals as goal
 
 pub returns-then-clears_page : goal.returns-then-clears_page

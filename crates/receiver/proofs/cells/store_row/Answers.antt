@@ -1,12 +1,8 @@
 use Rattle.coding.specs.Heard.{character_heard}
-use mathlib.Core.Path.{◌≡◌, refl, sym, subst}
-use Prim.Native.Nat.{◌-◌, ◌*◌, ◌≤◌}
+use mathlib.Core.Path.{refl, sym, subst}
 use native.Mathlib.Omega.{arith}
 use borrow.Author.Rules.{rules}
-use lib.ListN.{length}
-use Rattle.grid.specs.Grid.{columns, last_row}
 use Rattle.coding.proofs.Heard.{character_heard_law}
-use Rattle.receiver.specs.Cells.{first_column}
 use Rattle.receiver.proofs.Laying.{one_most}
 use Rattle.receiver.proofs.Rows.{first_small}
 use Rattle.receiver.proofs.Storing.{Storing, storing-counts, storing-ends, storing-more, storing-starts}
@@ -31,9 +27,8 @@ overflow_add-written_so_far c =
 
 pub loop-column-preserved : goal.loop-column-preserved
 loop-column-preserved c =
-    let b = c in
-    let args = b.args in
-    let inv = b.loop-column.invariant in
+    let args = c.args in
+    let inv = c.loop-column.invariant in
     let heard = character_heard_law _ _ c.character_of-found.ensures in
     let character = c.kept_character.ensures in
     let mark = c.kept_mark.ensures in (
@@ -47,9 +42,8 @@ loop-column-preserved c =
 
 pub returns : goal.returns
 returns c =
-    let b = c in
-    let args = b.args in
-    let inv = b.loop-column.invariant in
+    let args = c.args in
+    let inv = c.loop-column.invariant in
     let whole = sym inv.4 in
     let ended = c.loop-column-test.false in
     (storing-counts args.row args.bytes _ _ whole inv.5 ended inv.0, storing-ends args.row args.bytes _ _ whole inv.5 ended inv.0)

@@ -1,15 +1,9 @@
-use Rattle.coding.specs.Heard.{character_heard}
-use mathlib.Core.Path.{◌≡◌, refl, sym, subst}
+use mathlib.Core.Path.{◌≡◌}
 use Prim.Native.Nat.{◌-◌, ◌*◌, ◌≤◌}
-use native.Mathlib.Omega.{arith}
-use borrow.Author.Rules.{rules}
 use lib.ListN.{length}
 use Rattle.grid.specs.Grid.{columns, last_row}
-use Rattle.coding.proofs.Heard.{character_heard_law}
 use Rattle.receiver.specs.Cells.{first_column}
-use Rattle.receiver.proofs.Laying.{one_most}
-use Rattle.receiver.proofs.Rows.{first_small}
-use Rattle.receiver.proofs.Storing.{Storing, storing-counts, storing-ends, storing-more, storing-starts}
+use Rattle.receiver.proofs.Storing.{Storing}
 use Rattle.receiver.proofs.cells.store_row.Given as goal
 
 abbrev pub invariant-loop-column : goal.invariant-loop-column

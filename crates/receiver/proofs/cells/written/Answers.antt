@@ -1,6 +1,5 @@
 use Rattle.coding.specs.Heard.{character_heard}
 use Rattle.receiver.specs.Private.{one}
-use borrow.Author.Rules.{rules}
 use Rattle.receiver.proofs.cells.written.Goals as goal
 
 pub returns-in-Good : goal.returns-in-Good

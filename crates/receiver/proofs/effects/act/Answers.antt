@@ -3,7 +3,6 @@ use Rattle.packet.specs.Texts.{text_of}
 use Rattle.receiver.specs.Effects.{effected}
 use Rattle.receiver.specs.Private.{Storable, joined}
 use Rattle.receiver.proofs.Doing.{does_by, text_left, unclosed_does}
-use borrow.Author.Rules.{rules}
 use Rattle.receiver.proofs.effects.act.Goals as goal
 
 pub text_line-requires : goal.text_line-requires

@@ -6,7 +6,6 @@ use Rattle.receiver.specs.Private.{joined}
 use Rattle.receiver.proofs.Closings.{lent-shut}
 use Rattle.receiver.proofs.Doing.{ready_lawful}
 use Rattle.receiver.proofs.Writes.{closing-writes-the-page}
-use borrow.Author.Rules.{rules}
 use Rattle.receiver.proofs.effects.close.Goals as goal
 
 pub returns-then-not-standing : goal.returns-then-not-standing
@@ -19,9 +18,8 @@ returns-then-not-standing c =
 pub returns : goal.returns
 unfolding closing_word held
 returns c =
-    let start = c in
-    let args = start.args in
+    let args = c.args in
     let receiver = joined args.standing args.characters.now args.marks.now in
     let opened : T args.standing.is_open = rw (not-false args.standing.is_open c.if-not-standing.false) tt in
-    let wrote = closing-writes-the-page receiver (ready_lawful start.requires) opened args.«record».now start.requires.room in
+    let wrote = closing-writes-the-page receiver (ready_lawful c.requires) opened args.«record».now c.requires.room in
     (c.closing_word-closing.ensures, c.write_parts.ensures.record_after ∙ sym wrote)

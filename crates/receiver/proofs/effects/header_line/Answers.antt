@@ -8,19 +8,16 @@ use Rattle.receiver.specs.Private.{joined}
 use Rattle.receiver.proofs.Doing.{header_joined, ready_lawful, row_missing}
 use Rattle.receiver.proofs.Marks.{low_marks}
 use Rattle.receiver.proofs.Undoubted.{length_text}
-use borrow.Author.Rules.{rules}
 use Rattle.receiver.proofs.effects.header_line.Goals as goal
 
 pub open_cells-requires : goal.open_cells-requires
 open_cells-requires c =
-    let start = c in
-    (start.requires.all_marks, low_marks (joined start.args.standing start.args.characters.now start.args.marks.now) (ready_lawful start.requires))
+    (c.requires.all_marks, low_marks (joined c.args.standing c.args.characters.now c.args.marks.now) (ready_lawful c.requires))
 
 pub returns : goal.returns
 unfolding header_taken
 returns c =
-    let start = c in
-    let args = start.args in
+    let args = c.args in
     let receiver = joined args.standing args.characters.now args.marks.now in
     let text = c.text_of-text.result.bytes in
     let read = c.text_of-text.ensures.1 in
@@ -30,7 +27,7 @@ returns c =
     let cells = row.ensures.1 ∙ ap (stored 0 text) c.open_cells.ensures in
     record {
       kept =
-          header_joined receiver (ready_lawful start.requires) args.header text _ _ missing cells
+          header_joined receiver (ready_lawful c.requires) args.header text _ _ missing cells
           ∙ ap (row_stored (opened (closed receiver) args.header) 0) read;
       kind = refl;
       count = row.ensures.0 ∙ ap (λ (bytes : List ℕ). how_many (row_found 0 bytes)) read;

@@ -1,6 +1,5 @@
 use native.Mathlib.Omega.{arith}
 use Rattle.receiver.proofs.Rows.{first_small}
-use borrow.Author.Rules.{rules}
 use Rattle.receiver.proofs.effects.is_missing.Goals as goal
 
 pub overflow_sub-result : goal.overflow_sub-result

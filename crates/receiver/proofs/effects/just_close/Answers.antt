@@ -1,16 +1,14 @@
 use mathlib.Core.Path.{refl}
 use Rattle.receiver.specs.Effects.{just_closed}
 use Rattle.receiver.proofs.Doing.{ready_lawful, shut_joined}
-use borrow.Author.Rules.{rules}
 use Rattle.receiver.proofs.effects.just_close.Goals as goal
 
 pub returns : goal.returns
 unfolding just_closed
 returns c =
-    let start = c in
-    let args = start.args in
+    let args = c.args in
     record {
-      kept = shut_joined args.standing args.characters.now args.marks.now (ready_lawful start.requires) _ c.shut_standing-shut.ensures;
+      kept = shut_joined args.standing args.characters.now args.marks.now (ready_lawful c.requires) _ c.shut_standing-shut.ensures;
       kind = refl;
       count = refl;
       word = c.close-closing.ensures.0;

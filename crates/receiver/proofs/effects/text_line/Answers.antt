@@ -7,7 +7,6 @@ use Rattle.receiver.specs.Effects.{row_stored, text_taken}
 use Rattle.receiver.specs.Private.{joined}
 use Rattle.receiver.proofs.Doing.{row-joined, row_missing}
 use Rattle.receiver.proofs.Undoubted.{length_text}
-use borrow.Author.Rules.{rules}
 use Rattle.receiver.proofs.effects.text_line.Goals as goal
 
 pub returns : goal.returns

@@ -2,7 +2,6 @@ use borrow.Author.Tests.{not-false, not-true}
 use Rattle.receiver.specs.Effects.{doubted}
 use Rattle.receiver.specs.Private.{joined}
 use Rattle.receiver.proofs.Doing.{does, ready_doubted, unclosed_does, unsure-closes, unsure-rests, unsure-stays}
-use borrow.Author.Rules.{rules}
 use Rattle.receiver.proofs.effects.unsure_line.Goals as goal
 
 pub returns-then-not-standing : goal.returns-then-not-standing
@@ -14,8 +13,7 @@ returns-then-not-standing c =
 pub just_close-requires : goal.just_close-requires
 unfolding doubted
 just_close-requires c =
-    let start = c in
-    ready_doubted start.args.standing _ _ _ start.requires (not-false _ c.if-not-standing.false)
+    ready_doubted c.args.standing _ _ _ c.requires (not-false _ c.if-not-standing.false)
 
 pub returns-then-could_be_header : goal.returns-then-could_be_header
 unfolding doubted

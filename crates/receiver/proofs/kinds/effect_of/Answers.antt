@@ -1,5 +1,4 @@
 use Rattle.receiver.specs.Kinds.{effect_of}
-use borrow.Author.Rules.{rules}
 use Rattle.receiver.proofs.kinds.effect_of.Goals as goal
 
 pub returns-in-Another : goal.returns-in-Another

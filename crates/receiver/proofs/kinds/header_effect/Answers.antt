@@ -2,7 +2,6 @@ use mathlib.Core.Path.{sym, ap, ◌∙◌}
 use Rattle.packet.proofs.Papers.{header_read_is}
 use Rattle.receiver.specs.Kinds.{header_effect}
 use Rattle.receiver.proofs.Causes.{header_effect_law}
-use borrow.Author.Rules.{rules}
 use Rattle.receiver.proofs.kinds.header_effect.Goals as goal
 
 pub returns-then-is_selected : goal.returns-then-is_selected

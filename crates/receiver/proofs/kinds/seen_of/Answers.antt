@@ -1,18 +1,15 @@
 use mathlib.Core.Path.{◌∙◌}
 use native.Mathlib.Omega.{arith}
 use Rattle.packet.specs.Lines.{packet_byte}
-use Rattle.coding.proofs.Heard.{small_good, small_heard}
-use Rattle.coding.proofs.Heard.{heard-good, heard-refused, message_heard_law}
+use Rattle.coding.proofs.Heard.{small_good, small_heard, heard-good, heard-refused, message_heard_law}
 use Rattle.receiver.proofs.Seeing.{seen-elsewhere, seen-ours, seen-refused}
-use borrow.Author.Rules.{rules}
 use Rattle.receiver.proofs.kinds.seen_of.Goals as goal
 
 pub returns-then-first-ours : goal.returns-then-first-ours
 unfolding packet_byte
 returns-then-first-ours c =
-    let start = c in
     let heard = message_heard_law _ _ c.message_at.ensures in
-    seen-elsewhere _ start.args.packet.now start.requires.2 _ (heard-good _ heard _ c.in-Good.is) c.if-first-ours.true
+    seen-elsewhere _ c.args.packet.now c.requires.2 _ (heard-good _ heard _ c.in-Good.is) c.if-first-ours.true
 
 pub seen_with-requires : goal.seen_with-requires
 seen_with-requires c =
@@ -22,14 +19,12 @@ seen_with-requires c =
 pub returns-else-first-ours : goal.returns-else-first-ours
 unfolding packet_byte
 returns-else-first-ours c =
-    let start = c in
     let heard = message_heard_law _ _ c.message_at.ensures in
     let first = heard-good _ heard _ c.in-Good.is in
-    c.seen_with.ensures ∙ seen-ours _ start.args.packet.now start.requires.2 _ first start.requires.0 start.requires.1 c.if-first-ours.false
+    c.seen_with.ensures ∙ seen-ours _ c.args.packet.now c.requires.2 _ first c.requires.0 c.requires.1 c.if-first-ours.false
 
 pub returns-in-Refused : goal.returns-in-Refused
 unfolding packet_byte
 returns-in-Refused c =
-    let start = c in
     let heard = message_heard_law _ _ c.message_at.ensures in
-    c.seen_without.ensures ∙ seen-refused _ start.args.packet.now start.requires.2 (heard-refused _ heard c.in-Refused.is)
+    c.seen_without.ensures ∙ seen-refused _ c.args.packet.now c.requires.2 (heard-refused _ heard c.in-Refused.is)

@@ -1,7 +1,6 @@
 use native.Mathlib.Omega.{arith}
 use Rattle.coding.proofs.Heard.{heard-good, heard-refused, message_heard_law, small_good, small_heard}
 use Rattle.receiver.specs.Private.{seen_with}
-use borrow.Author.Rules.{rules}
 use Rattle.receiver.proofs.kinds.seen_with.Goals as goal
 
 pub overflow_mul-second : goal.overflow_mul-second

@@ -1,7 +1,6 @@
 use borrow.Author.Tests.{le-leb, lt-leb}
 use Rattle.coding.proofs.Heard.{heard-good, heard-refused, message_heard_law}
 use Rattle.receiver.specs.Private.{seen_without}
-use borrow.Author.Rules.{rules}
 use Rattle.receiver.proofs.kinds.seen_without.Goals as goal
 
 pub returns-then-second-ge-FIRST_HARMLESS : goal.returns-then-second-ge-FIRST_HARMLESS

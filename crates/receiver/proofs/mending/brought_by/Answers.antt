@@ -3,7 +3,6 @@ use mathlib.Core.Bool.{Bool, true, false, cond, not}
 use mir.Val.{bool_byte}
 use lib.Dec.{eqb}
 use Rattle.receiver.specs.Mended.{brought}
-use borrow.Author.Rules.{rules}
 use Rattle.receiver.proofs.mending.brought_by.Goals as goal
 
 -- a line that had one is counted

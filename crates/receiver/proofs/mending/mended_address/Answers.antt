@@ -17,5 +17,4 @@ overflow_add-result c =
 
 pub returns : goal.returns
 returns c =
-    let start = c in
-    ap₂ (λ (one two : ℕ). one + two) c.one_if_mended.ensures c.one_if_mended-2.ensures ∙ corrected-pair start.args.packet.now start.requires
+    ap₂ (λ (one two : ℕ). one + two) c.one_if_mended.ensures c.one_if_mended-2.ensures ∙ corrected-pair c.args.packet.now c.requires

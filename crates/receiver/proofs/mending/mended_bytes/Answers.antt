@@ -4,14 +4,12 @@ use native.Mathlib.Omega.{arith}
 use Rattle.receiver.specs.Mended.{examined, mended_in}
 use Rattle.receiver.specs.declared.kinds.Seen.{Seen}
 use Rattle.receiver.proofs.MendedBytes.{control-at-most, mended-header, pair-at-most}
-use borrow.Author.Rules.{rules}
 use Rattle.receiver.proofs.mending.mended_bytes.Goals as goal
 
 pub overflow_add-result : goal.overflow_add-result
 overflow_add-result c =
-    let start = c in
-    let packet = start.args.packet.now in
-    omega (arith, pair-at-most packet start.requires, control-at-most packet start.requires, c.mended_address-address.ensures, c.mended_control.ensures)
+    let packet = c.args.packet.now in
+    omega (arith, pair-at-most packet c.requires, control-at-most packet c.requires, c.mended_address-address.ensures, c.mended_control.ensures)
 
 pub returns-in-Another : goal.returns-in-Another
 unfolding mended_in examined
@@ -23,10 +21,9 @@ returns-in-OurRow c = rw c.in-OurRow.is c.mended_address-address.ensures
 
 pub returns-in-OurHeader : goal.returns-in-OurHeader
 returns-in-OurHeader c =
-    let start = c in
-    let packet = start.args.packet.now in
+    let packet = c.args.packet.now in
     ap₂ (λ (pair control : ℕ). pair + control) c.mended_address-address.ensures c.mended_control.ensures
-    ∙ (sym (mended-header packet start.requires) ∙ ap (λ (s : Seen). mended_in s packet) (sym c.in-OurHeader.is))
+    ∙ (sym (mended-header packet c.requires) ∙ ap (λ (s : Seen). mended_in s packet) (sym c.in-OurHeader.is))
 
 pub returns-in-Unsure : goal.returns-in-Unsure
 unfolding mended_in examined

@@ -1,6 +1,6 @@
 use mathlib.Core.Path.{◌≡◌, refl, ap, ap₂, ◌∙◌}
 use mathlib.Core.List.{[], ◌∷◌}
-use Prim.Native.Nat.{ℕ, suc, ◌+◌, ◌-◌, ◌≤◌}
+use Prim.Native.Nat.{ℕ, suc, ◌+◌, ◌-◌}
 use native.Mathlib.Omega.{arith}
 use borrow.Author.Rules.{rules}
 use lib.ListN.{get_or}
@@ -8,7 +8,7 @@ use Rattle.coding.specs.Bits.{turned_byte}
 use Rattle.coding.specs.Hamming.{how_many_corrected}
 use Rattle.packet.specs.Lines.{packet_bytes}
 use Rattle.packet.specs.Texts.{header_column}
-use Rattle.packet.specs.Writing.{address_length, header_length}
+use Rattle.packet.specs.Writing.{address_length}
 use Rattle.receiver.proofs.MendedBytes.{at_most, corrected_more, one_at_most}
 use Rattle.receiver.proofs.mending.mended_control.Goals as goal
 
@@ -19,9 +19,8 @@ loop-at-init c = (search rules, search rules, refl)
 pub overflow_add-mended : goal.overflow_add-mended
 overflow_add-mended c =
     let turn = c.loop-at in
-    let start = c in
-    let packet = start.args.packet.now in
-    let so_far = at_most packet start.requires 3 (turn.at - address_length) (omega (arith, start.requires)) in
+    let packet = c.args.packet.now in
+    let so_far = at_most packet c.requires 3 (turn.at - address_length) (omega (arith, c.requires)) in
     let this = one_at_most (turned_byte (get_or packet turn.at 0)) in
     let counted = turn.invariant.2 in
     let read = c.one_if_mended-mended.ensures in
@@ -30,8 +29,7 @@ overflow_add-mended c =
 pub loop-at-preserved : goal.loop-at-preserved
 loop-at-preserved c =
     let turn = c.loop-at in
-    let start = c in
-    let packet = start.args.packet.now in
+    let packet = c.args.packet.now in
     let count = turn.at - address_length in
     let place : turn.at ≡ (3 - 1) + count = omega (arith, turn.invariant.0) in
     let next : suc count ≡ turn.at + 1 - address_length = omega (arith, turn.invariant.0) in
@@ -39,7 +37,7 @@ loop-at-preserved c =
       search rules,
       search rules,
       ap₂ (λ (so_far one : ℕ). so_far + one) turn.invariant.2 this
-          ∙ (corrected_more packet 3 count (omega (arith, start.requires)) ∙ ap (λ (n : ℕ). how_many_corrected (packet_bytes packet 3 n)) next),
+          ∙ (corrected_more packet 3 count (omega (arith, c.requires)) ∙ ap (λ (n : ℕ). how_many_corrected (packet_bytes packet 3 n)) next),
     )
 
 pub returns : goal.returns

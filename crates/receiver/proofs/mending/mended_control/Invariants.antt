@@ -1,15 +1,8 @@
-use mathlib.Core.Path.{◌≡◌, refl, ap, ap₂, ◌∙◌}
-use mathlib.Core.List.{[], ◌∷◌}
-use Prim.Native.Nat.{ℕ, suc, ◌+◌, ◌-◌, ◌≤◌}
-use native.Mathlib.Omega.{arith}
-use borrow.Author.Rules.{rules}
-use lib.ListN.{get_or}
-use Rattle.coding.specs.Bits.{turned_byte}
+use mathlib.Core.Path.{◌≡◌}
+use Prim.Native.Nat.{◌-◌, ◌≤◌}
 use Rattle.coding.specs.Hamming.{how_many_corrected}
 use Rattle.packet.specs.Lines.{packet_bytes}
-use Rattle.packet.specs.Texts.{header_column}
 use Rattle.packet.specs.Writing.{address_length, header_length}
-use Rattle.receiver.proofs.MendedBytes.{at_most, corrected_more, one_at_most}
 use Rattle.receiver.proofs.mending.mended_control.Given as goal
 
 -- so many control bytes are counted

@@ -1,6 +1,5 @@
 use Rattle.receiver.specs.Entries.{answer_paper}
 use Rattle.receiver.specs.Mended.{brought_by}
-use borrow.Author.Rules.{rules}
 use Rattle.receiver.proofs.mending.mended_of.Goals as goal
 
 pub returns-in-Taken : goal.returns-in-Taken

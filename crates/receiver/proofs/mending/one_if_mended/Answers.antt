@@ -4,7 +4,6 @@ use Prim.Native.Nat.{◌+◌}
 use mir.Val.{bool_byte}
 use Rattle.coding.specs.Bits.{turned_byte}
 use Rattle.coding.specs.Hamming.{corrected, how_many_corrected, tests_of}
-use borrow.Author.Rules.{rules}
 use Rattle.receiver.proofs.mending.one_if_mended.Goals as goal
 
 -- a test as a number

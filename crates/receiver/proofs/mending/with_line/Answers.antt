@@ -13,27 +13,23 @@ module _ (c : After-brought_by-more) where
 
 pub overflow_add-result : goal.overflow_add-result
 overflow_add-result c =
-    let call = c.before.before in
     let more = within (goal.at.overflow_add-result c).After-brought_by-more in
-    let room = call.requires in
+    let room = c.requires in
     search rules
 
 pub overflow_add-result-2 : goal.overflow_add-result-2
 overflow_add-result-2 c =
-    let call = c.before.before.before.before in
     let more = within (goal.at.overflow_add-result-2 c).After-brought_by-more in
-    let room = call.requires in
+    let room = c.requires in
     search rules
 
 pub overflow_add-result-3 : goal.overflow_add-result-3
 overflow_add-result-3 c =
-    let call = c.before.before.before.before.before.before in
     let more = within (goal.at.overflow_add-result-3 c).After-brought_by-more in
-    let room = call.requires in
+    let room = c.requires in
     search rules
 
 pub returns : goal.returns
 unfolding summed
 returns c =
-    let call = c in
-    ap (summed call.args.so) call.brought_by-more.ensures
+    ap (summed c.args.so) c.brought_by-more.ensures

@@ -1,15 +1,10 @@
-use mathlib.Core.Path.{◌≡◌, refl, sym, ◌∙◌, subst}
+use mathlib.Core.Path.{refl, sym, ◌∙◌, subst}
 use Prim.Native.Nat.{ℕ, ◌+◌, ◌-◌, ◌≤◌}
 use native.Mathlib.Omega.{arith}
-use lib.ListN.{drop, length, take}
-use Rattle.packet.specs.Lines.{packet_length}
-use Rattle.receiver.specs.Mended.{mended_in}
-use Rattle.receiver.specs.Private.{Holds, joined, line_asked}
+use Rattle.receiver.specs.Private.{joined}
 use Rattle.receiver.specs.declared.Receiver.{Receiver}
-use Rattle.receiver.specs.declared.asking.Asking.TheVariants.{Fine}
 use Rattle.receiver.proofs.Lawful.{our_magazine}
-use Rattle.receiver.proofs.Playing.{Turning, turning-ends, turning_starts}
-use Rattle.receiver.proofs.Sized.{Sized}
+use Rattle.receiver.proofs.Playing.{turning-ends, turning_starts}
 use Rattle.receiver.proofs.Turns.{AtLine, another_counts, ends_as, ends_with, turn-another, turn_holds, turn_on, turn-ours, turn-refused, turn-seen, turn-sized, turn-stops, turn-whole}
 use borrow.Author.Rules.{rules}
 use Rattle.receiver.proofs.recording.play.Goals as goal

@@ -1,5 +1,4 @@
 use Rattle.receiver.specs.Private.{is_closing}
-use borrow.Author.Rules.{rules}
 use Rattle.receiver.proofs.recording.stops.Goals as goal
 
 pub returns-in-None : goal.returns-in-None

@@ -1,5 +1,4 @@
 use Rattle.receiver.specs.Selections.{in_range}
-use borrow.Author.Rules.{rules}
 use Rattle.receiver.proofs.selecting.in_range.Goals as goal
 
 pub returns : goal.returns

@@ -1,5 +1,4 @@
 use Rattle.receiver.specs.Selections.{matches}
-use borrow.Author.Rules.{rules}
 use Rattle.receiver.proofs.selecting.is_selected.Goals as goal
 
 pub returns : goal.returns

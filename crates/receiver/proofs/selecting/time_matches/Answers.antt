@@ -1,5 +1,4 @@
 use Rattle.receiver.specs.Selections.{time_matches}
-use borrow.Author.Rules.{rules}
 use Rattle.receiver.proofs.selecting.time_matches.Goals as goal
 
 pub returns-in-Any : goal.returns-in-Any

@@ -1,5 +1,4 @@
 use Rattle.receiver.specs.Selections.{when_in_range}
-use borrow.Author.Rules.{rules}
 use Rattle.receiver.proofs.selecting.when_in_range.Goals as goal
 
 pub returns-in-Any : goal.returns-in-Any
