@@ -1,11 +1,9 @@
 -- `announcing::fresh_characters` meets its contract. The loop's invariant: the cells so far are as they were sent, or spaces.
 use mathlib.Core.Path.{◌≡◌}
-use Prim.Native.Nat.{ℕ, ◌≤◌, ◌<◌, ◌-◌}
 use native.Mathlib.Omega.{arith}
 use borrow.Author.Rules.{rules}
-use lib.ListN.{length, get_or, length-set}
+use lib.ListN.{get_or, length-set}
 use Rattle.laws.proofs.Lists.{stored_more}
-use Rattle.grid.specs.Grid.{cell_count}
 use Rattle.announcing.specs.Told.{sent_now}
 use Rattle.announcing.proofs.Fresh.{fresh_is}
 use Rattle.announcing.proofs.fresh_characters.Goals as goal

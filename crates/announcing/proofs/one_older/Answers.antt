@@ -1,9 +1,8 @@
 -- `announcing::one_older` meets its contract. The loop's invariant: one is older where one was so far, or where one is from here on.
-use mathlib.Core.Path.{◌≡◌, refl, sym, ◌∙◌, ap}
+use mathlib.Core.Path.{refl, sym, ◌∙◌, ap}
 use mathlib.Core.Bool.{Bool, ◌||◌, or-false}
-use Prim.Native.Nat.{◌≤◌, ◌-◌}
 use borrow.Author.Rules.{rules}
-use lib.ListN.{length, drop, drop_of_length-le}
+use lib.ListN.{drop_of_length-le}
 use Rattle.announcing.specs.Told.{one_older}
 use Rattle.announcing.proofs.Fresh.{none_older, older_from}
 use Rattle.announcing.proofs.one_older.Goals as goal

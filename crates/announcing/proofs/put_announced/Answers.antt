@@ -16,7 +16,6 @@ use Rattle.announcing.specs.Said.{left_out_size}
 use Rattle.announcing.specs.Told.{announced, page_line, page_said}
 use Rattle.announcing.proofs.Fresh.{printable_read}
 use Rattle.texts.proofs.Putting.{as_text, put_none, put_then, same_room}
-use borrow.Author.Rules.{rules}
 use Rattle.announcing.proofs.put_announced.Goals as goal
 use Rattle.announcing.proofs.put_announced.Goals.{After-put_line-line}
 

@@ -3,7 +3,6 @@ use mathlib.Core.Path.{◌≡◌, ◌∙◌, ap}
 use mathlib.Core.List.{List, ◌++◌}
 use Prim.Native.Nat.{ℕ, ◌+◌, ◌≤◌}
 use native.Mathlib.Omega.{arith}
-use borrow.Author.Rules.{rules}
 use lib.ListN.{length, take}
 use Rattle.texts.proofs.Putting.{as_text, put_then, same_room}
 use Rattle.printing.specs.Letters.{printed_utf8, utf8_page_size, utf8_page_text, utf8_paper}

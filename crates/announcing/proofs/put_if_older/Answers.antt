@@ -4,7 +4,6 @@ use mathlib.Core.Bool.{Bool, cond}
 use mathlib.Core.List.{[]}
 use Rattle.announcing.specs.Told.{row_number}
 use Rattle.texts.proofs.Putting.{as_text, put_none}
-use borrow.Author.Rules.{rules}
 use Rattle.announcing.proofs.put_if_older.Goals as goal
 
 pub returns-then-one_older : goal.returns-then-one_older

@@ -11,7 +11,6 @@ use Rattle.texts.specs.Put.{Puts}
 use Rattle.announcing.specs.Told.{left_out_text, left_out_words, older_rows}
 use Rattle.announcing.proofs.Lengths.{older_length}
 use Rattle.texts.proofs.Putting.{as_text, put_none, put_then, same_room}
-use borrow.Author.Rules.{rules}
 use Rattle.announcing.proofs.put_left_out.Goals as goal
 use Rattle.announcing.proofs.put_left_out.Goals.{After-put_older_rows-numbers}
 

@@ -1,7 +1,6 @@
 -- `announcing::put_line` meets its contract: the line that is held is put, and there is room for it.
 use mathlib.Core.Path.{◌≡◌, ap}
 use native.Mathlib.Omega.{arith}
-use borrow.Author.Rules.{rules}
 use lib.ListN.{length, take}
 use Rattle.texts.proofs.Putting.{as_text}
 use Rattle.heading.proofs.Words.{line-counted, line-is, line_length_law}

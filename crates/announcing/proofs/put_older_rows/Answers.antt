@@ -7,8 +7,7 @@ use native.Mathlib.Numerals.{add-one}
 use native.Mathlib.Omega.{arith}
 use borrow.Author.Rules.{rules}
 use lib.ListN.{length, take, drop}
-use Rattle.grid.specs.Grid.{cell_count, columns, rows}
-use Rattle.texts.specs.Put.{Puts}
+use Rattle.grid.specs.Grid.{columns, rows}
 use Rattle.announcing.specs.Told.{older_rows, one_older, row_number}
 use Rattle.announcing.proofs.Lengths.{older_length}
 use Rattle.texts.proofs.Putting.{as_text, put_none, put_then, same_room}

@@ -1,5 +1,4 @@
 -- `announcing::put_row_number` meets its contract: by whether one digit is enough.
-use borrow.Author.Rules.{rules}
 use borrow.Author.Tests.{lt-ltb, le-ltb}
 use Rattle.announcing.specs.Told.{row_number}
 use Rattle.texts.proofs.Putting.{as_text}

@@ -1,11 +1,5 @@
 -- `announcing::to_next_stop` meets its contract: the recording played, the watch, and the text put behind what is there.
-use mathlib.Core.Path.{◌≡◌}
-use Prim.Native.Nat.{◌+◌, ◌*◌, ◌≤◌, min}
-use native.Mathlib.Omega.{arith}
-use lib.ListN.{length}
-use Rattle.packet.specs.Lines.{line_length}
 use Rattle.announcing.proofs.Walking.{stops}
-use borrow.Author.Rules.{rules}
 use Rattle.announcing.proofs.to_next_stop.Goals as goal
 
 pub returns : goal.returns

@@ -1,5 +1,4 @@
 -- `heading::heading_of` meets its contract: byte by byte.
-use borrow.Author.Rules.{rules}
 use Rattle.heading.specs.Line.{heading_text}
 use Rattle.heading.proofs.heading_of.Goals as goal
 

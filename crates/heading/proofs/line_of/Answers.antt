@@ -3,7 +3,6 @@ use mathlib.Core.Path.{ap}
 use mathlib.Core.List.{◌++◌, append_assoc}
 use Prim.Native.Nat.{◌+◌}
 use native.Mathlib.Omega.{arith}
-use borrow.Author.Rules.{rules}
 use lib.ListN.{length}
 use Rattle.texts.proofs.Growing.{Grown, and_then, fits, has_room, is-counted, is_held, none_yet}
 use Rattle.texts.proofs.Putting.{as_text, put-fits}

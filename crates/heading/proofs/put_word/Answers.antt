@@ -2,7 +2,6 @@
 use mathlib.Core.Path.{◌≡◌, sym, ap}
 use Prim.Native.Nat.{ℕ}
 use native.Mathlib.Omega.{arith}
-use borrow.Author.Rules.{rules}
 use Rattle.texts.specs.Put.{Puts}
 use Rattle.texts.proofs.Putting.{as_text, put-fits, put_none, put_then, same_room}
 use Rattle.watch.specs.declared.Word.{Word}

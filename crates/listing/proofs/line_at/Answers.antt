@@ -8,7 +8,6 @@ use Rattle.listing.specs.Lines.{told, numbered, taken, line_at}
 use Rattle.listing.specs.Held.{held, listed_paper, next_paper}
 use Rattle.listing.proofs.Answers.{stops, stops_short, too_long, told_of}
 use Rattle.listing.proofs.Held.{used_fits}
-use borrow.Author.Rules.{rules}
 use Rattle.listing.proofs.line_at.Goals as goal
 use Rattle.listing.proofs.line_at.Goals.{After-unit_at}
 

@@ -1,11 +1,9 @@
 -- `listing::put_text` meets its contract. The loop's invariant: the line holds what it held, and the text as far as it was put.
-use mathlib.Core.Path.{◌≡◌, ◌∙◌, ap}
+use mathlib.Core.Path.{◌∙◌, ap}
 use mathlib.Core.List.{◌++◌}
-use Prim.Native.Nat.{◌≤◌, ◌-◌, ◌+◌}
 use borrow.Author.Rules.{rules}
-use lib.ListN.{length, take}
 use lib.Seq.{take_all}
-use Rattle.listing.specs.Held.{line_of, room}
+use Rattle.listing.specs.Held.{line_of}
 use Rattle.listing.specs.Private.{text_of}
 use Rattle.listing.proofs.Held.{ready, none_yet, one_more, part_fits}
 use Rattle.listing.proofs.put_text.Goals as goal

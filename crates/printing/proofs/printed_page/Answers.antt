@@ -1,5 +1,4 @@
 -- `printing::printed_page` meets its contract: by the display's answer, the lines of its cells, or zeros.
-use borrow.Author.Rules.{rules}
 use Rattle.printing.proofs.Shown.{cells_whole, text-refused, text-shown}
 use Rattle.printing.proofs.printed_page.Goals as goal
 

@@ -1,9 +1,9 @@
 -- `printing::text_of` meets its contract. The loop's invariant: the text has the bytes of the cells so far, and line feeds else (`laid`).
 use mathlib.Core.Path.{◌≡◌, sym, ◌∙◌, ap}
 use mathlib.Core.List.{List}
-use Prim.Native.Nat.{ℕ, ◌+◌, ◌/◌, ◌≤◌, ◌-◌}
+use Prim.Native.Nat.{ℕ, ◌+◌, ◌/◌}
 use borrow.Author.Rules.{rules}
-use lib.ListN.{length, set}
+use lib.ListN.{set}
 use Rattle.grid.specs.Grid.{cell_count, columns}
 use Rattle.display.specs.Display.{zero_cell}
 use Rattle.printing.specs.Printed.{cell_byte}

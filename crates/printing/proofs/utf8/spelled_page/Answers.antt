@@ -1,19 +1,17 @@
 -- `printing::spelled_page` meets its contract. The loop's invariant: the letters of the bytes so far stand at the start of zeros (`Spelled`).
 use mathlib.Core.Path.{◌≡◌, sym, ◌∙◌, ap, subst}
 use mathlib.Core.List.{map}
-use Prim.Native.Nat.{◌-◌, ◌≤◌}
 use native.Mathlib.Omega.{arith}
 use borrow.Author.Rules.{rules}
 use lib.ListN.{length, take}
 use lib.Seq.{take_all}
 use Rattle.texts.proofs.Growing.{fits, has_room, is-counted, is_held, none_yet}
-use Rattle.letters.specs.Sets.{letter_in, letter_of, national_codes, option_of, set_for}
+use Rattle.letters.specs.Sets.{letter_in, letter_of, national_codes}
 use Rattle.letters.specs.Utf8.{most_of_letters, utf8_text}
 use Rattle.letters.proofs.National.{set_whole}
 use Rattle.printing.specs.Letters.{utf8_page_size}
-use Rattle.printing.specs.Pages.{page_size}
 use Rattle.printing.specs.Private.{Spells, spelled_page}
-use Rattle.printing.proofs.Spelling.{Spelled, one_more, spells}
+use Rattle.printing.proofs.Spelling.{one_more, spells}
 use Rattle.printing.proofs.utf8.spelled_page.Goals as goal
 
 pub loop-i-init : goal.loop-i-init

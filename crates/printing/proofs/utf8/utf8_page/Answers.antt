@@ -1,5 +1,4 @@
 -- `printing::utf8_page` meets its contract: by the printed page's answer, its letters, or zeros.
-use borrow.Author.Rules.{rules}
 use Rattle.printing.proofs.Shown.{letters-refused, letters-shown}
 use Rattle.printing.proofs.utf8.utf8_page.Goals as goal
 
