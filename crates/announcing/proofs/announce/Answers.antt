@@ -81,6 +81,5 @@ shape_of-room c = c.loop-state.invariant.1.same_room
 
 pub returns : goal.returns
 returns c =
-    let start = c in
-    let size = c.loop-state.invariant.0 ∙ sym (fitting_length start.args.room.now start.args.lines.now) in
+    let size = c.loop-state.invariant.0 ∙ sym (fitting_length c.args.room.now c.args.lines.now) in
     ended c.loop-state.invariant.1 (let test = c.loop-state-test.false in omega arith)

@@ -12,8 +12,7 @@ loop-i-init c = (search rules, refl)
 
 pub loop-i-preserved : goal.loop-i-preserved
 loop-i-preserved c =
-    let turn = c in
-    (search rules, older_from turn.loop-i.found turn.args.marks.now turn.loop-i.i (search rules) ∙ turn.loop-i.invariant.1)
+    (search rules, older_from c.loop-i.found c.args.marks.now c.loop-i.i (search rules) ∙ c.loop-i.invariant.1)
 
 pub returns : goal.returns
 returns c =

@@ -18,6 +18,5 @@ put_text-requires c =
 
 pub returns : goal.returns
 returns c =
-    let start = c in
     c.put_text.ensures
-    ∙ ap (λ (text : List ℕ). line_of (text_of start.args.line ++ text)) (held-text (decimal start.args.number) c.digits_of-digits.ensures.value)
+    ∙ ap (λ (text : List ℕ). line_of (text_of c.args.line ++ text)) (held-text (decimal c.args.number) c.digits_of-digits.ensures.value)

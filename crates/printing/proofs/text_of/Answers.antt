@@ -16,12 +16,11 @@ loop-place-init c = (search rules, c.requires, sym (none-laid c.args.cells))
 pub loop-place-preserved : goal.loop-place-preserved
 unfolding cell_byte zero_cell
 loop-place-preserved c =
-    let turn = c in
-    let cells = turn.args.cells in
-    let place = turn.loop-place.place in
-    let text = ap (λ (text : List ℕ). set text (place + place / columns) c.byte_of.result) turn.loop-place.invariant.2 in
+    let cells = c.args.cells in
+    let place = c.loop-place.place in
+    let text = ap (λ (text : List ℕ). set text (place + place / columns) c.byte_of.result) c.loop-place.invariant.2 in
     let byte = ap (set (laid cells place) (place + place / columns)) c.byte_of.ensures in
-    (search rules, turn.loop-place.invariant.1, text ∙ (byte ∙ one-laid cells place))
+    (search rules, c.loop-place.invariant.1, text ∙ (byte ∙ one-laid cells place))
 
 pub returns : goal.returns
 returns c =
