@@ -46,7 +46,7 @@ put_decimal-requires-3 c = has-room-for (id-ends (goal.at.put_decimal-requires-3
 
 pub put-requires : goal.put-requires
 put-requires c =
-    has_room (with_number (id-ends (goal.at.put-requires c).After-put-with_id) c.args.length (omega arith) c.put_decimal-3.ensures) 1
+    has_room (with_number (id-ends (goal.at.put-requires c).After-put-with_id) _ (omega arith) c.put_decimal-3.ensures) 1
     (omega arith)
 
 pub returns : goal.returns
