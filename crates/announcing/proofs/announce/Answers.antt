@@ -1,15 +1,15 @@
 -- `announcing::announce` meets its contract. The loop's invariant: what is still to be said, from the stop reached, gives what the whole gives.
 use mathlib.Core.Path.{◌≡◌, refl, sym, ◌∙◌, subst}
-use mathlib.Core.List.{List, []}
-use Prim.Native.Nat.{ℕ, ◌+◌, ◌*◌, ◌/◌, ◌-◌, ◌≤◌, ◌<◌, min}
+use mathlib.Core.List.{List}
+use Prim.Native.Nat.{ℕ, ◌+◌, ◌*◌, ◌/◌, ◌-◌, ◌≤◌, ◌<◌}
 use native.Mathlib.Omega.{arith}
 use borrow.Author.Rules.{rules}
 use lib.ListN.{length, take, drop, length-drop}
 use Rattle.packet.specs.Lines.{line_length}
-use Rattle.announcing.specs.Private.{Stops, standing}
-use Rattle.announcing.specs.Said.{Saying, fitting, longest}
+use Rattle.announcing.specs.Private.{Stops}
+use Rattle.announcing.specs.Said.{fitting, longest}
 use Rattle.announcing.specs.declared.Announced.{Announced}
-use Rattle.announcing.proofs.Walking.{Walks, further, ended, fitting_length, fitting_part, has_room, walks-on, walks_start}
+use Rattle.announcing.proofs.Walking.{further, ended, fitting_length, fitting_part, has_room, walks-on, walks_start}
 use Rattle.announcing.proofs.announce.Goals as goal
 use Rattle.announcing.proofs.announce.Goals.{In-loop-state}
 
@@ -81,6 +81,5 @@ shape_of-room c = c.loop-state.invariant.1.same_room
 
 pub returns : goal.returns
 returns c =
-    let start = c in
-    let size = c.loop-state.invariant.0 ∙ sym (fitting_length start.args.room.now start.args.lines.now) in
+    let size = c.loop-state.invariant.0 ∙ sym (fitting_length c.args.room.now c.args.lines.now) in
     ended c.loop-state.invariant.1 (let test = c.loop-state-test.false in omega arith)

@@ -1,14 +1,11 @@
-use mathlib.Core.Path.{◌≡◌, refl, sym, ◌∙◌, subst}
-use mathlib.Core.List.{List, []}
-use Prim.Native.Nat.{ℕ, ◌+◌, ◌*◌, ◌/◌, ◌-◌, ◌≤◌, ◌<◌, min}
-use native.Mathlib.Omega.{arith}
-use borrow.Author.Rules.{rules}
-use lib.ListN.{length, take, drop, length-drop}
+use mathlib.Core.Path.{◌≡◌}
+use mathlib.Core.List.{[]}
+use Prim.Native.Nat.{◌*◌, ◌/◌, ◌-◌, min}
+use lib.ListN.{length}
 use Rattle.packet.specs.Lines.{line_length}
-use Rattle.announcing.specs.Private.{Stops, standing}
-use Rattle.announcing.specs.Said.{Saying, fitting, longest}
-use Rattle.announcing.specs.declared.Announced.{Announced}
-use Rattle.announcing.proofs.Walking.{Walks, further, ended, fitting_length, fitting_part, has_room, walks-on, walks_start}
+use Rattle.announcing.specs.Private.{standing}
+use Rattle.announcing.specs.Said.{fitting, longest}
+use Rattle.announcing.proofs.Walking.{Walks}
 use Rattle.announcing.proofs.announce.Given as goal
 
 abbrev pub invariant-loop-state : goal.invariant-loop-state

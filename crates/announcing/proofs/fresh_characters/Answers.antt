@@ -1,11 +1,9 @@
 -- `announcing::fresh_characters` meets its contract. The loop's invariant: the cells so far are as they were sent, or spaces.
 use mathlib.Core.Path.{◌≡◌}
-use Prim.Native.Nat.{ℕ, ◌≤◌, ◌<◌, ◌-◌}
 use native.Mathlib.Omega.{arith}
 use borrow.Author.Rules.{rules}
-use lib.ListN.{length, get_or, length-set}
+use lib.ListN.{get_or, length-set}
 use Rattle.laws.proofs.Lists.{stored_more}
-use Rattle.grid.specs.Grid.{cell_count}
 use Rattle.announcing.specs.Told.{sent_now}
 use Rattle.announcing.proofs.Fresh.{fresh_is}
 use Rattle.announcing.proofs.fresh_characters.Goals as goal
@@ -15,17 +13,15 @@ loop-i-init c = (search rules, search rules, λ k h. absurd (omega arith))
 
 pub loop-i-preserved : goal.loop-i-preserved
 loop-i-preserved c =
-    let turn = c in
-    let cells = turn.args.cells in
-    let full = turn.loop-i.invariant.1 in (
+    let cells = c.args.cells in
+    let full = c.loop-i.invariant.1 in (
       search rules,
       simp length-set full,
-      stored_more (λ k byte. byte ≡ sent_now (get_or cells.characters k 0) (get_or cells.marks k 0)) turn.loop-i.sent turn.loop-i.i c.sent_now.result 0
-          (omega arith) turn.loop-i.invariant.2 c.sent_now.ensures,
+      stored_more (λ k byte. byte ≡ sent_now (get_or cells.characters k 0) (get_or cells.marks k 0)) c.loop-i.sent c.loop-i.i c.sent_now.result 0
+          (omega arith) c.loop-i.invariant.2 c.sent_now.ensures,
     )
 
 pub returns : goal.returns
 returns c =
-    let start = c in
     let loop = c.loop-i in
-    fresh_is start.args.cells start.requires loop.sent loop.invariant.1 (λ k h. loop.invariant.2 k (omega arith))
+    fresh_is c.args.cells c.requires loop.sent loop.invariant.1 (λ k h. loop.invariant.2 k (omega arith))

@@ -1,12 +1,8 @@
 use mathlib.Core.Path.{◌≡◌}
 use Prim.Native.Nat.{ℕ, ◌≤◌, ◌<◌, ◌-◌}
-use native.Mathlib.Omega.{arith}
-use borrow.Author.Rules.{rules}
-use lib.ListN.{length, get_or, length-set}
-use Rattle.laws.proofs.Lists.{stored_more}
+use lib.ListN.{length, get_or}
 use Rattle.grid.specs.Grid.{cell_count}
 use Rattle.announcing.specs.Told.{sent_now}
-use Rattle.announcing.proofs.Fresh.{fresh_is}
 use Rattle.announcing.proofs.fresh_characters.Given as goal
 
 abbrev pub invariant-loop-i : goal.invariant-loop-i

@@ -1,9 +1,8 @@
 -- `announcing::one_older` meets its contract. The loop's invariant: one is older where one was so far, or where one is from here on.
-use mathlib.Core.Path.{◌≡◌, refl, sym, ◌∙◌, ap}
+use mathlib.Core.Path.{refl, sym, ◌∙◌, ap}
 use mathlib.Core.Bool.{Bool, ◌||◌, or-false}
-use Prim.Native.Nat.{◌≤◌, ◌-◌}
 use borrow.Author.Rules.{rules}
-use lib.ListN.{length, drop, drop_of_length-le}
+use lib.ListN.{drop_of_length-le}
 use Rattle.announcing.specs.Told.{one_older}
 use Rattle.announcing.proofs.Fresh.{none_older, older_from}
 use Rattle.announcing.proofs.one_older.Goals as goal
@@ -13,8 +12,7 @@ loop-i-init c = (search rules, refl)
 
 pub loop-i-preserved : goal.loop-i-preserved
 loop-i-preserved c =
-    let turn = c in
-    (search rules, older_from turn.loop-i.found turn.args.marks.now turn.loop-i.i (search rules) ∙ turn.loop-i.invariant.1)
+    (search rules, older_from c.loop-i.found c.args.marks.now c.loop-i.i (search rules) ∙ c.loop-i.invariant.1)
 
 pub returns : goal.returns
 returns c =

@@ -1,10 +1,8 @@
-use mathlib.Core.Path.{◌≡◌, refl, sym, ◌∙◌, ap}
-use mathlib.Core.Bool.{Bool, ◌||◌, or-false}
+use mathlib.Core.Path.{◌≡◌}
+use mathlib.Core.Bool.{◌||◌}
 use Prim.Native.Nat.{◌≤◌, ◌-◌}
-use borrow.Author.Rules.{rules}
-use lib.ListN.{length, drop, drop_of_length-le}
+use lib.ListN.{length, drop}
 use Rattle.announcing.specs.Told.{one_older}
-use Rattle.announcing.proofs.Fresh.{none_older, older_from}
 use Rattle.announcing.proofs.one_older.Given as goal
 
 abbrev pub invariant-loop-i : goal.invariant-loop-i

@@ -1,7 +1,6 @@
 -- `announcing::page_in` meets its contract.
 use mathlib.Core.Path.{◌∙◌, ap}
 use Rattle.page.specs.Reading.{page_read}
-use borrow.Author.Rules.{rules}
 use Rattle.announcing.proofs.page_in.Goals as goal
 
 pub returns : goal.returns

@@ -16,7 +16,6 @@ use Rattle.announcing.specs.Said.{left_out_size}
 use Rattle.announcing.specs.Told.{announced, page_line, page_said}
 use Rattle.announcing.proofs.Fresh.{printable_read}
 use Rattle.texts.proofs.Putting.{as_text, put_none, put_then, same_room}
-use borrow.Author.Rules.{rules}
 use Rattle.announcing.proofs.put_announced.Goals as goal
 use Rattle.announcing.proofs.put_announced.Goals.{After-put_line-line}
 
@@ -31,42 +30,35 @@ line-fits : (c : After-put_line-line)
     → let a = c.args in
     a.at + (length (page_line word.Clean a.mended c.page_in-page.result) + (left_out_size + utf8_page_size)) ≤ length a.room.now
 line-fits c =
-    let start = c in
     let page = c.page_in-page.result in
-    let line = line_length_law word.Clean page.magazine page.header start.args.mended (omega arith) in
-    omega (arith, start.requires)
+    let line = line_length_law word.Clean page.magazine page.header c.args.mended (omega arith) in
+    omega (arith, c.requires)
 
 pub put_cells-requires : goal.put_cells-requires
 put_cells-requires c =
-    let call = c.before.before.before.before.before in
     let fits = line-fits (goal.at.put_cells-requires c).After-put_line-line in
-    let same = same_room call.put_line-line.ensures (omega arith) in
-    let ends = call.put_line-line.ensures.ends in
-    (omega arith, subst (λ (p : Page). Printable p.cells) (sym call.page_in-page.ensures) (printable_read _))
+    let same = same_room c.put_line-line.ensures (omega arith) in
+    let ends = c.put_line-line.ensures.ends in
+    (omega arith, subst (λ (p : Page). Printable p.cells) (sym c.page_in-page.ensures) (printable_read _))
 
 pub returns-in-None : goal.returns-in-None
 unfolding page_said
 returns-in-None c =
-    let start = c in
-    as_text (put_none start.args.room.now start.args.at) (by_word _ _ c.in-None.is refl)
+    as_text (put_none c.args.room.now c.args.at) (by_word _ _ c.in-None.is refl)
 
 pub returns-in-Clean : goal.returns-in-Clean
 unfolding page_said
 returns-in-Clean c =
-    let call = c.before.before.before.before.before.before.before.before in
     let fits = line-fits (goal.at.returns-in-Clean c).After-put_line-line in
-    as_text (put_then call.put_line-line.ensures (omega arith) c.put_cells.ensures)
-    (by_word _ call.args.«record».now call.in-Clean.is
-    call.page_in-page.ensures)
+    as_text (put_then c.put_line-line.ensures (omega arith) c.put_cells.ensures)
+    (by_word _ c.args.«record».now c.in-Clean.is c.page_in-page.ensures)
 
 pub returns-in-Doubt : goal.returns-in-Doubt
 unfolding page_said
 returns-in-Doubt c =
-    let call = c in
-    as_text call.put_line.ensures (by_word _ _ call.in-Doubt.is call.page_in.ensures)
+    as_text c.put_line.ensures (by_word _ _ c.in-Doubt.is c.page_in.ensures)
 
 pub returns-in-Missing : goal.returns-in-Missing
 unfolding page_said
 returns-in-Missing c =
-    let call = c in
-    as_text call.put_line-in-Missing.ensures (by_word _ _ call.in-Missing.is call.page_in-in-Missing.ensures)
+    as_text c.put_line-in-Missing.ensures (by_word _ _ c.in-Missing.is c.page_in-in-Missing.ensures)

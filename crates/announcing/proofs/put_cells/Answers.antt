@@ -3,7 +3,6 @@ use mathlib.Core.Path.{◌≡◌, ◌∙◌, ap}
 use mathlib.Core.List.{List, ◌++◌}
 use Prim.Native.Nat.{ℕ, ◌+◌, ◌≤◌}
 use native.Mathlib.Omega.{arith}
-use borrow.Author.Rules.{rules}
 use lib.ListN.{length, take}
 use Rattle.texts.proofs.Putting.{as_text, put_then, same_room}
 use Rattle.printing.specs.Letters.{printed_utf8, utf8_page_size, utf8_page_text, utf8_paper}
@@ -21,7 +20,7 @@ page_is c =
 
 text-is : (c : After-utf8_page-page)
     → take c.utf8_page-page.result.used c.utf8_page-page.result.text ≡ utf8_page_text c.args.control (fresh_characters c.args.cells)
-text-is c = let start = c in utf8-is _ start.args.control (fresh_characters start.args.cells) start.requires.1.shown (page_is c)
+text-is c = utf8-is _ c.args.control (fresh_characters c.args.cells) c.requires.1.shown (page_is c)
 
 rows_fit : (c : After-utf8_page-page)
     → c.args.at + length (left_out_text c.args.cells.marks) + utf8_page_size ≤ length c.args.room.now
@@ -32,26 +31,22 @@ rows_fit c =
 
 pub slice_bounds-put-end : goal.slice_bounds-put-end
 slice_bounds-put-end c =
-    let call = c in
-    let start = c in
-    utf8-counted _ start.args.control (fresh_characters start.args.cells) start.requires.1.shown (page_is (goal.at.slice_bounds-put-end c).After-utf8_page-page)
+    utf8-counted _ c.args.control (fresh_characters c.args.cells) c.requires.1.shown (page_is (goal.at.slice_bounds-put-end c).After-utf8_page-page)
 
 pub put-requires : goal.put-requires
 put-requires c =
-    let call = c in
-    let left_out = call.put_left_out-rows.ensures in
+    let left_out = c.put_left_out-rows.ensures in
     let fits = rows_fit (goal.at.put-requires c).After-utf8_page-page in
     let same = same_room left_out (omega arith) in
     let ends = left_out.ends in
-    let size = call.utf8_page-page.ensures.text_len in
+    let size = c.utf8_page-page.ensures.text_len in
     let counted = slice_bounds-put-end c in
     omega arith
 
 pub returns : goal.returns
 unfolding cells_text
 returns c =
-    let call = c in
-    let left_out = call.put_left_out-rows.ensures in
+    let left_out = c.put_left_out-rows.ensures in
     let fits = rows_fit (goal.at.returns c).After-utf8_page-page in
     as_text (put_then left_out (omega arith) c.put.ensures)
     (ap (λ (text : List ℕ). left_out_text c.args.cells.marks ++ text) (text-is (goal.at.returns c).After-utf8_page-page))

@@ -4,18 +4,14 @@ use mathlib.Core.Bool.{Bool, cond}
 use mathlib.Core.List.{[]}
 use Rattle.announcing.specs.Told.{row_number}
 use Rattle.texts.proofs.Putting.{as_text, put_none}
-use borrow.Author.Rules.{rules}
 use Rattle.announcing.proofs.put_if_older.Goals as goal
 
 pub returns-then-one_older : goal.returns-then-one_older
 returns-then-one_older c =
-    let call = c in
-    let start = call in
-    as_text call.put_row_number.ensures
-    (ap (λ (b : Bool). cond b (row_number start.args.row) []) (sym call.if-one_older.true ∙ call.one_older.ensures))
+    as_text c.put_row_number.ensures
+    (ap (λ (b : Bool). cond b (row_number c.args.row) []) (sym c.if-one_older.true ∙ c.one_older.ensures))
 
 pub returns : goal.returns
 returns c =
-    let start = c in
-    as_text (put_none start.args.room.now start.args.at)
-    (ap (λ (b : Bool). cond b (row_number start.args.row) []) (sym c.if-one_older.false ∙ c.one_older.ensures))
+    as_text (put_none c.args.room.now c.args.at)
+    (ap (λ (b : Bool). cond b (row_number c.args.row) []) (sym c.if-one_older.false ∙ c.one_older.ensures))

@@ -11,7 +11,6 @@ use Rattle.texts.specs.Put.{Puts}
 use Rattle.announcing.specs.Told.{left_out_text, left_out_words, older_rows}
 use Rattle.announcing.proofs.Lengths.{older_length}
 use Rattle.texts.proofs.Putting.{as_text, put_none, put_then, same_room}
-use borrow.Author.Rules.{rules}
 use Rattle.announcing.proofs.put_left_out.Goals as goal
 use Rattle.announcing.proofs.put_left_out.Goals.{After-put_older_rows-numbers}
 
@@ -32,7 +31,6 @@ numbers_fit c =
 
 pub put-requires : goal.put-requires
 put-requires c =
-    let call = c in
     let fits = numbers_fit (goal.at.put-requires c).After-put_older_rows-numbers in
     let same = same_room (numbered (goal.at.put-requires c).After-put_older_rows-numbers) (omega arith) in
     let ends = (numbered (goal.at.put-requires c).After-put_older_rows-numbers).ends in
@@ -41,18 +39,15 @@ put-requires c =
 pub returns-then-one_older : goal.returns-then-one_older
 unfolding left_out_text
 returns-then-one_older c =
-    let call = c in
     let marks = c.args.marks.now in
-    let found = call in
     let fits = numbers_fit (goal.at.returns-then-one_older c).After-put_older_rows-numbers in
     as_text (put_then (numbered (goal.at.returns-then-one_older c).After-put_older_rows-numbers) (omega arith) c.put.ensures)
     (append_assoc left_out_words (older_rows rows marks) line_feed
-    ∙ ap (λ (b : Bool). cond b (left_out_words ++ (older_rows rows marks ++ line_feed)) []) (sym found.if-one_older.true ∙ found.one_older.ensures))
+    ∙ ap (λ (b : Bool). cond b (left_out_words ++ (older_rows rows marks ++ line_feed)) []) (sym c.if-one_older.true ∙ c.one_older.ensures))
 
 pub returns : goal.returns
 unfolding left_out_text
 returns c =
-    let start = c in
-    let marks = start.args.marks.now in
-    as_text (put_none start.args.room.now start.args.at)
+    let marks = c.args.marks.now in
+    as_text (put_none c.args.room.now c.args.at)
     (ap (λ (b : Bool). cond b (left_out_words ++ (older_rows rows marks ++ line_feed)) []) (sym c.if-one_older.false ∙ c.one_older.ensures))

@@ -7,8 +7,7 @@ use native.Mathlib.Numerals.{add-one}
 use native.Mathlib.Omega.{arith}
 use borrow.Author.Rules.{rules}
 use lib.ListN.{length, take, drop}
-use Rattle.grid.specs.Grid.{cell_count, columns, rows}
-use Rattle.texts.specs.Put.{Puts}
+use Rattle.grid.specs.Grid.{columns, rows}
 use Rattle.announcing.specs.Told.{older_rows, one_older, row_number}
 use Rattle.announcing.proofs.Lengths.{older_length}
 use Rattle.texts.proofs.Putting.{as_text, put_none, put_then, same_room}
@@ -40,23 +39,21 @@ loop-row-init c = (search rules, c.requires.0, c.requires.1, put_none c.args.roo
 
 pub put_if_older-end-requires : goal.put_if_older-end-requires
 put_if_older-end-requires c =
-    let turn = c.before.before.before in
     let same = room-here (goal.at.put_if_older-end-requires c).At-loop-row in
-    let ends = turn.loop-row.invariant.3.ends in
-    let short = older_length turn.loop-row.row turn.args.marks.now in
-    let fits = turn.loop-row.invariant.1 in
+    let ends = c.loop-row.invariant.3.ends in
+    let short = older_length c.loop-row.row c.args.marks.now in
+    let fits = c.loop-row.invariant.1 in
     (omega arith, search rules)
 
 pub loop-row-preserved : goal.loop-row-preserved
 loop-row-preserved c =
-    let turn = c.before.before.before.before.before.before in
-    let marks = turn.args.marks.now in
-    let row = turn.loop-row.row in
+    let marks = c.args.marks.now in
+    let row = c.loop-row.row in
     let part : columns * row + columns - columns * row ≡ columns = omega arith in (
       search rules,
-      turn.loop-row.invariant.1,
-      turn.loop-row.invariant.2,
-      as_text (put_then turn.loop-row.invariant.3 (has_room (goal.at.loop-row-preserved c).At-loop-row) c.put_if_older-end.ensures) (one_row_more marks row part),
+      c.loop-row.invariant.1,
+      c.loop-row.invariant.2,
+      as_text (put_then c.loop-row.invariant.3 (has_room (goal.at.loop-row-preserved c).At-loop-row) c.put_if_older-end.ensures) (one_row_more marks row part),
     )
 
 pub shape_of-room : goal.shape_of-room

@@ -1,16 +1,9 @@
-use mathlib.Core.Path.{◌≡◌, sym, ◌∙◌, ap}
-use mathlib.Core.Bool.{cond}
-use mathlib.Core.List.{List, [], ◌++◌}
-use Prim.Native.Nat.{ℕ, ◌+◌, ◌*◌, ◌-◌, ◌≤◌}
-use native.Mathlib.Numerals.{add-one}
-use native.Mathlib.Omega.{arith}
-use borrow.Author.Rules.{rules}
-use lib.ListN.{length, take, drop}
-use Rattle.grid.specs.Grid.{cell_count, columns, rows}
+use mathlib.Core.Path.{◌≡◌}
+use Prim.Native.Nat.{◌+◌, ◌*◌, ◌-◌, ◌≤◌}
+use lib.ListN.{length}
+use Rattle.grid.specs.Grid.{cell_count, rows}
 use Rattle.texts.specs.Put.{Puts}
-use Rattle.announcing.specs.Told.{older_rows, one_older, row_number}
-use Rattle.announcing.proofs.Lengths.{older_length}
-use Rattle.texts.proofs.Putting.{as_text, put_none, put_then, same_room}
+use Rattle.announcing.specs.Told.{older_rows}
 use Rattle.announcing.proofs.put_older_rows.Given as goal
 
 abbrev pub invariant-loop-row : goal.invariant-loop-row

@@ -3,7 +3,6 @@ use mathlib.Core.Path.{ap}
 use mathlib.Core.List.{◌++◌, append_assoc}
 use Prim.Native.Nat.{◌+◌}
 use native.Mathlib.Omega.{arith}
-use borrow.Author.Rules.{rules}
 use lib.ListN.{length}
 use Rattle.texts.proofs.Growing.{Grown, and_then, fits, has_room, is-counted, is_held, none_yet}
 use Rattle.texts.proofs.Putting.{as_text, put-fits}
@@ -28,26 +27,25 @@ second_is : (c : After-put_word-said)
     → let a = c.args in
     Grown line_size (heading_text a.magazine a.header ++ word_text a.word a.header.control) (heading_size + word_size) c.put_word-said.new.room c.put_word-said.result
 second_is c =
-    let start = c in
-    and_then (first-is c.before.before.before) c.put_word-said.ensures word_size (word-length start.args.header.control start.args.word) (omega arith)
+    and_then (first-is c.before.before.before) c.put_word-said.ensures word_size (word-length c.args.header.control c.args.word) (omega arith)
 
 pub put_word-said-requires : goal.put_word-said-requires
 put_word-said-requires c = has_room (first-is (goal.at.put_word-said-requires c).After-put-named) word_size (omega arith)
 
 pub slice_bounds-put-end-4 : goal.slice_bounds-put-end-4
 slice_bounds-put-end-4 c =
-    let call = c in
-    mended-counted call.args.mended call.mended_text-count.ensures.value
+    mended-counted c.args.mended c.mended_text-count.ensures.value
 
 pub returns : goal.returns
 unfolding line_held line_text
 returns c =
-    let call = c in
-    let count = call in
-    let start = count in
     let so_far = second_is (goal.at.returns c).After-put_word-said in
-    let is = mended_is start.args.mended count.mended_text-count.ensures.value in
-    let short = mended_length start.args.mended (omega arith) in
+    let is = mended_is c.args.mended c.mended_text-count.ensures.value in
+    let short = mended_length c.args.mended (omega arith) in
     let size = ap length is in
-    let put = as_text (put-fits (let room = has_room so_far mended_size (omega arith) in omega arith) call.put-used.ensures) is in
-    let grown = and_then so_far put mended_size short (omega arith) in record { value = rw (is_held grown (omega arith), is-counted grown) (simp append_assoc); bytes_len = fits grown (omega arith) }
+    let put = as_text (put-fits (let room = has_room so_far mended_size (omega arith) in omega arith) c.put-used.ensures) is in
+    let grown = and_then so_far put mended_size short (omega arith) in
+    record {
+      value = rw (is_held grown (omega arith), is-counted grown) (simp append_assoc);
+      bytes_len = fits grown (omega arith);
+    }

@@ -3,7 +3,6 @@ use mathlib.Core.Path.{◌∙◌, ap}
 use mathlib.Core.List.{List, ◌++◌}
 use Prim.Native.Nat.{ℕ}
 use native.Mathlib.Omega.{arith}
-use borrow.Author.Rules.{rules}
 use lib.ListN.{length}
 use Rattle.texts.proofs.Putting.{as_text, put-fits, put_none, put_then, same_room}
 use Rattle.letters.specs.Said.{stand_in_text}
@@ -14,19 +13,14 @@ use Rattle.heading.proofs.put_english.Goals as goal
 pub returns-then-stands_in : goal.returns-then-stands_in
 unfolding stand_in_text
 returns-then-stands_in c =
-    let call = c in
-    let words = call in
-    let asked = words in
-    let start = asked in
-    let size = ap length words.stand_in_text-words.ensures in
-    let first = put-fits (omega (arith, start.requires)) call.put-end.ensures in
-    let same = same_room first (omega (arith, start.requires)) in
+    let size = ap length c.stand_in_text-words.ensures in
+    let first = put-fits (omega (arith, c.requires)) c.put-end.ensures in
+    let same = same_room first (omega (arith, c.requires)) in
     let ends = first.ends in
-    let second = put-fits (omega (arith, start.requires)) c.put.ensures in
-    as_text (put_then first (omega (arith, start.requires)) second)
-    (ap (λ (text : List ℕ). text ++ comma) words.stand_in_text-words.ensures ∙ stands start.args.control words.if-stands_in.true asked.stands_in.ensures)
+    let second = put-fits (omega (arith, c.requires)) c.put.ensures in
+    as_text (put_then first (omega (arith, c.requires)) second)
+    (ap (λ (text : List ℕ). text ++ comma) c.stand_in_text-words.ensures ∙ stands c.args.control c.if-stands_in.true c.stands_in.ensures)
 
 pub returns : goal.returns
 returns c =
-    let start = c in
-    as_text (put_none start.args.room.now start.args.at) (not-needed start.args.control c.if-stands_in.false c.stands_in.ensures)
+    as_text (put_none c.args.room.now c.args.at) (not-needed c.args.control c.if-stands_in.false c.stands_in.ensures)

@@ -2,7 +2,6 @@
 use mathlib.Core.Path.{◌≡◌, sym, ap}
 use Prim.Native.Nat.{ℕ}
 use native.Mathlib.Omega.{arith}
-use borrow.Author.Rules.{rules}
 use Rattle.texts.specs.Put.{Puts}
 use Rattle.texts.proofs.Putting.{as_text, put-fits, put_none, put_then, same_room}
 use Rattle.watch.specs.declared.Word.{Word}
@@ -22,8 +21,7 @@ clean-put c = let room = c.requires in put-fits (omega arith) c.put-end.ensures
 
 pub put_english-requires : goal.put_english-requires
 put_english-requires c =
-    let call = c.before.before.before in
-    let room = call.requires in
+    let room = c.requires in
     let clean = clean-put (goal.at.put_english-requires c).After-put-end in
     let same = same_room clean (omega arith) in
     let ends = clean.ends in
@@ -32,30 +30,23 @@ put_english-requires c =
 pub returns-in-None : goal.returns-in-None
 unfolding word_text
 returns-in-None c =
-    let start = c in
-    as_text (put_none start.args.room.now start.args.at) (by_word start.args.control c.in-None.is)
+    as_text (put_none c.args.room.now c.args.at) (by_word c.args.control c.in-None.is)
 
 pub returns-in-Clean : goal.returns-in-Clean
 unfolding word_text
 returns-in-Clean c =
-    let call = c.before.before.before.before.before.before in
-    let start = call in
-    let room = start.requires in
+    let room = c.requires in
     as_text (put_then (clean-put (goal.at.returns-in-Clean c).After-put-end) (omega arith) c.put_english.ensures)
-    (by_word start.args.control call.in-Clean.is)
+    (by_word c.args.control c.in-Clean.is)
 
 pub returns-in-Doubt : goal.returns-in-Doubt
 unfolding word_text
 returns-in-Doubt c =
-    let call = c in
-    let start = call in
-    let room = start.requires in
-    as_text (put-fits (omega arith) call.put.ensures) (by_word start.args.control call.in-Doubt.is)
+    let room = c.requires in
+    as_text (put-fits (omega arith) c.put.ensures) (by_word c.args.control c.in-Doubt.is)
 
 pub returns-in-Missing : goal.returns-in-Missing
 unfolding word_text
 returns-in-Missing c =
-    let call = c in
-    let start = call in
-    let room = start.requires in
-    as_text (put-fits (omega arith) call.put-in-Missing.ensures) (by_word start.args.control call.in-Missing.is)
+    let room = c.requires in
+    as_text (put-fits (omega arith) c.put-in-Missing.ensures) (by_word c.args.control c.in-Missing.is)

@@ -3,7 +3,6 @@ use mathlib.Core.List.{◌++◌, append_assoc}
 use Prim.Native.Nat.{◌+◌}
 use native.Mathlib.Omega.{arith}
 use lib.ListN.{length}
-use borrow.Author.Rules.{rules}
 use Rattle.laws.specs.Text.{line_feed}
 use Rattle.texts.specs.Decimal.{decimal, most_digits}
 use Rattle.listing.specs.Lines.{end_word, end_text}

@@ -8,7 +8,6 @@ use Rattle.listing.specs.Lines.{told, numbered, taken, line_at}
 use Rattle.listing.specs.Held.{held, listed_paper, next_paper}
 use Rattle.listing.proofs.Answers.{stops, stops_short, too_long, told_of}
 use Rattle.listing.proofs.Held.{used_fits}
-use borrow.Author.Rules.{rules}
 use Rattle.listing.proofs.line_at.Goals as goal
 use Rattle.listing.proofs.line_at.Goals.{After-unit_at}
 
@@ -21,44 +20,66 @@ answer_is c e = ap held (told_of _ _ c.if-field-gt-MOST.false e c.unit_at.ensure
 pub returns-then-field-gt-MOST : goal.returns-then-field-gt-MOST
 returns-then-field-gt-MOST c =
     let last = c.last_line.ensures in
-    let line = c.too_long_line.ensures in record { result_value = stops _ last line ∙ ap held (sym (too_long _ _ c.if-field-gt-MOST.true)); used_le_room = stops_short last line }
+    let line = c.too_long_line.ensures in
+    record {
+      result_value = stops _ last line ∙ ap held (sym (too_long _ _ c.if-field-gt-MOST.true));
+      used_le_room = stops_short last line;
+    }
 
 pub returns-in-Whole : goal.returns-in-Whole
 unfolding listed_paper held next_paper told numbered taken any_unit_paper accepted
 returns-in-Whole c =
-    let case = c in record { result_value = rw (c.unit_line-line.ensures.is, c.unit_place.ensures) (answer_is (goal.at.returns-in-Whole c).After-unit_at case.in-Whole.is); used_le_room = used_fits c.unit_line-line.ensures }
+    record {
+      result_value = rw (c.unit_line-line.ensures.is, c.unit_place.ensures) (answer_is (goal.at.returns-in-Whole c).After-unit_at c.in-Whole.is);
+      used_le_room = used_fits c.unit_line-line.ensures;
+    }
 
 pub returns-in-End : goal.returns-in-End
 unfolding told numbered taken any_unit_paper accepted refused_by
 returns-in-End c =
     let last = c.last_line-in-End.ensures in
     let line = c.end_line.ensures in
-    let case = c in record { result_value = stops _ last line ∙ answer_is (goal.at.returns-in-End c).After-unit_at case.in-End.is; used_le_room = stops_short last line }
+    record {
+      result_value = stops _ last line ∙ answer_is (goal.at.returns-in-End c).After-unit_at c.in-End.is;
+      used_le_room = stops_short last line;
+    }
 
 pub returns-in-NoField : goal.returns-in-NoField
 unfolding told numbered taken any_unit_paper accepted refused_by
 returns-in-NoField c =
     let last = c.last_line-in-NoField.ensures in
     let line = c.refused_line.ensures in
-    let case = c in record { result_value = stops _ last line ∙ answer_is (goal.at.returns-in-NoField c).After-unit_at case.in-NoField.is; used_le_room = stops_short last line }
+    record {
+      result_value = stops _ last line ∙ answer_is (goal.at.returns-in-NoField c).After-unit_at c.in-NoField.is;
+      used_le_room = stops_short last line;
+    }
 
 pub returns-in-PastField : goal.returns-in-PastField
 unfolding told numbered taken any_unit_paper accepted refused_by
 returns-in-PastField c =
     let last = c.last_line-in-PastField.ensures in
     let line = c.refused_line-in-PastField.ensures in
-    let case = c in record { result_value = stops _ last line ∙ answer_is (goal.at.returns-in-PastField c).After-unit_at case.in-PastField.is; used_le_room = stops_short last line }
+    record {
+      result_value = stops _ last line ∙ answer_is (goal.at.returns-in-PastField c).After-unit_at c.in-PastField.is;
+      used_le_room = stops_short last line;
+    }
 
 pub returns-in-Short : goal.returns-in-Short
 unfolding told numbered taken any_unit_paper accepted refused_by
 returns-in-Short c =
     let last = c.last_line-in-Short.ensures in
     let line = c.refused_at_line.ensures in
-    let case = c in record { result_value = stops _ last line ∙ answer_is (goal.at.returns-in-Short c).After-unit_at case.in-Short.is; used_le_room = stops_short last line }
+    record {
+      result_value = stops _ last line ∙ answer_is (goal.at.returns-in-Short c).After-unit_at c.in-Short.is;
+      used_le_room = stops_short last line;
+    }
 
 pub returns-in-WrongLength : goal.returns-in-WrongLength
 unfolding told numbered taken any_unit_paper accepted refused_by
 returns-in-WrongLength c =
     let last = c.last_line-in-WrongLength.ensures in
     let line = c.refused_at_line-in-WrongLength.ensures in
-    let case = c in record { result_value = stops _ last line ∙ answer_is (goal.at.returns-in-WrongLength c).After-unit_at case.in-WrongLength.is; used_le_room = stops_short last line }
+    record {
+      result_value = stops _ last line ∙ answer_is (goal.at.returns-in-WrongLength c).After-unit_at c.in-WrongLength.is;
+      used_le_room = stops_short last line;
+    }

@@ -2,7 +2,6 @@
 use mathlib.Core.Path.{◌∙◌, ap}
 use mathlib.Core.List.{List, ◌++◌}
 use Prim.Native.Nat.{ℕ}
-use borrow.Author.Rules.{rules}
 use Rattle.texts.specs.Decimal.{decimal}
 use Rattle.texts.proofs.Decimal.{held-counted, held-text}
 use Rattle.listing.specs.Held.{line_of}
@@ -19,6 +18,5 @@ put_text-requires c =
 
 pub returns : goal.returns
 returns c =
-    let start = c in
     c.put_text.ensures
-    ∙ ap (λ (text : List ℕ). line_of (text_of start.args.line ++ text)) (held-text (decimal start.args.number) c.digits_of-digits.ensures.value)
+    ∙ ap (λ (text : List ℕ). line_of (text_of c.args.line ++ text)) (held-text (decimal c.args.number) c.digits_of-digits.ensures.value)

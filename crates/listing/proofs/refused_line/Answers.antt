@@ -1,7 +1,6 @@
 -- `listing::refused_line` meets its contract: the start of a refusal and the line feed.
 use mathlib.Core.List.{append_assoc}
 use native.Mathlib.Omega.{arith}
-use borrow.Author.Rules.{rules}
 use Rattle.laws.specs.Text.{line_feed}
 use Rattle.listing.specs.Lines.{refused_text}
 use Rattle.listing.proofs.Held.{has_room, with-text, refused_is, written}

@@ -1,6 +1,5 @@
 -- `listing::refused_start` meets its contract: the word and the number.
 use native.Mathlib.Omega.{arith}
-use borrow.Author.Rules.{rules}
 use lib.ListN.{length}
 use Rattle.listing.specs.Lines.{refused_word}
 use Rattle.listing.proofs.Held.{Holds, starts, has_room, has-room-for, with-text, with_number}

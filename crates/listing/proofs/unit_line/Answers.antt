@@ -2,7 +2,6 @@
 use mathlib.Core.List.{[], ◌++◌, append_assoc}
 use Prim.Native.Nat.{◌+◌, ◌*◌}
 use native.Mathlib.Omega.{arith}
-use borrow.Author.Rules.{rules}
 use Rattle.laws.specs.Text.{line_feed}
 use Rattle.texts.specs.Decimal.{decimal, most_digits}
 use Rattle.listing.specs.Lines.{space, unit_text}
@@ -47,7 +46,7 @@ put_decimal-requires-3 c = has-room-for (id-ends (goal.at.put_decimal-requires-3
 
 pub put-requires : goal.put-requires
 put-requires c =
-    has_room (with_number (id-ends (goal.at.put-requires c).After-put-with_id) c.args.length (omega arith) c.put_decimal-3.ensures) 1
+    has_room (with_number (id-ends (goal.at.put-requires c).After-put-with_id) _ (omega arith) c.put_decimal-3.ensures) 1
     (omega arith)
 
 pub returns : goal.returns

@@ -1,7 +1,6 @@
 -- `printing::byte_of` meets its contract: by the symbol, and by whether its code is 7F.
 use borrow.Author.Tests.{eq-eqb, ne_eqb}
 use Rattle.printing.specs.Printed.{symbol_byte}
-use borrow.Author.Rules.{rules}
 use Rattle.printing.proofs.byte_of.Goals as goal
 
 pub returns-then-code-eq127 : goal.returns-then-code-eq127

@@ -1,9 +1,9 @@
 -- `printing::text_of` meets its contract. The loop's invariant: the text has the bytes of the cells so far, and line feeds else (`laid`).
 use mathlib.Core.Path.{◌≡◌, sym, ◌∙◌, ap}
 use mathlib.Core.List.{List}
-use Prim.Native.Nat.{ℕ, ◌+◌, ◌/◌, ◌≤◌, ◌-◌}
+use Prim.Native.Nat.{ℕ, ◌+◌, ◌/◌}
 use borrow.Author.Rules.{rules}
-use lib.ListN.{length, set}
+use lib.ListN.{set}
 use Rattle.grid.specs.Grid.{cell_count, columns}
 use Rattle.display.specs.Display.{zero_cell}
 use Rattle.printing.specs.Printed.{cell_byte}
@@ -16,12 +16,11 @@ loop-place-init c = (search rules, c.requires, sym (none-laid c.args.cells))
 pub loop-place-preserved : goal.loop-place-preserved
 unfolding cell_byte zero_cell
 loop-place-preserved c =
-    let turn = c in
-    let cells = turn.args.cells in
-    let place = turn.loop-place.place in
-    let text = ap (λ (text : List ℕ). set text (place + place / columns) c.byte_of.result) turn.loop-place.invariant.2 in
+    let cells = c.args.cells in
+    let place = c.loop-place.place in
+    let text = ap (λ (text : List ℕ). set text (place + place / columns) c.byte_of.result) c.loop-place.invariant.2 in
     let byte = ap (set (laid cells place) (place + place / columns)) c.byte_of.ensures in
-    (search rules, turn.loop-place.invariant.1, text ∙ (byte ∙ one-laid cells place))
+    (search rules, c.loop-place.invariant.1, text ∙ (byte ∙ one-laid cells place))
 
 pub returns : goal.returns
 returns c =

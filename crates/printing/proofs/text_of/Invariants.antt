@@ -1,12 +1,8 @@
-use mathlib.Core.Path.{◌≡◌, sym, ◌∙◌, ap}
-use mathlib.Core.List.{List}
-use Prim.Native.Nat.{ℕ, ◌+◌, ◌/◌, ◌≤◌, ◌-◌}
-use borrow.Author.Rules.{rules}
-use lib.ListN.{length, set}
-use Rattle.grid.specs.Grid.{cell_count, columns}
-use Rattle.display.specs.Display.{zero_cell}
-use Rattle.printing.specs.Printed.{cell_byte}
-use Rattle.printing.proofs.Pages.{all_laid, laid, none-laid, one-laid}
+use mathlib.Core.Path.{◌≡◌}
+use Prim.Native.Nat.{◌≤◌, ◌-◌}
+use lib.ListN.{length}
+use Rattle.grid.specs.Grid.{cell_count}
+use Rattle.printing.proofs.Pages.{laid}
 use Rattle.printing.proofs.text_of.Given as goal
 
 abbrev pub invariant-loop-place : goal.invariant-loop-place

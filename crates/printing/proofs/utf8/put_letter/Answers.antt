@@ -28,7 +28,11 @@ sized c = c.requires.1 c.args.code (search rules)
 pub returns-then-form-eq1 : goal.returns-then-form-eq1
 unfolding stored
 returns-then-form-eq1 c =
-    let room = c.requires.0 in record { puts = all-stored _ _ _ (is_held (goal.at.returns-then-form-eq1 c).After-utf8_of-form) 1 (sym c.if-form-eq1.true) (omega arith); code_len_bound = (sized (goal.at.returns-then-form-eq1 c).After-utf8_of-form).1 }
+    let room = c.requires.0 in
+    record {
+      puts = all-stored _ _ _ (is_held (goal.at.returns-then-form-eq1 c).After-utf8_of-form) 1 (sym c.if-form-eq1.true) (omega arith);
+      code_len_bound = (sized (goal.at.returns-then-form-eq1 c).After-utf8_of-form).1;
+    }
 
 pub bounds-text-at-2 : goal.bounds-text-at-2
 bounds-text-at-2 c = let room = c.requires.0 in simp length-set (omega arith)
@@ -36,7 +40,11 @@ bounds-text-at-2 c = let room = c.requires.0 in simp length-set (omega arith)
 pub returns-then-form-eq2 : goal.returns-then-form-eq2
 unfolding stored
 returns-then-form-eq2 c =
-    let room = c.requires.0 in record { puts = all-stored _ _ _ (is_held (goal.at.returns-then-form-eq2 c).After-utf8_of-form) 2 (sym c.if-form-eq2.true) (omega arith); code_len_bound = (sized (goal.at.returns-then-form-eq2 c).After-utf8_of-form).1 }
+    let room = c.requires.0 in
+    record {
+      puts = all-stored _ _ _ (is_held (goal.at.returns-then-form-eq2 c).After-utf8_of-form) 2 (sym c.if-form-eq2.true) (omega arith);
+      code_len_bound = (sized (goal.at.returns-then-form-eq2 c).After-utf8_of-form).1;
+    }
 
 pub bounds-text-at-3 : goal.bounds-text-at-3
 bounds-text-at-3 c = let room = c.requires.0 in simp length-set (omega arith)
@@ -49,4 +57,8 @@ returns c =
     let used = counted (goal.at.returns c).After-utf8_of-form in
     let size = sized (goal.at.returns c).After-utf8_of-form in
     let no_one = c.if-form-eq1.false in
-    let no-two = c.if-form-eq2.false in record { puts = all-stored _ _ _ (is_held (goal.at.returns c).After-utf8_of-form) 3 (omega arith) (omega arith); code_len_bound = size.1 }
+    let no-two = c.if-form-eq2.false in
+    record {
+      puts = all-stored _ _ _ (is_held (goal.at.returns c).After-utf8_of-form) 3 (omega arith) (omega arith);
+      code_len_bound = size.1;
+    }
