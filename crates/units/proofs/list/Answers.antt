@@ -3,13 +3,12 @@
 use mathlib.Core.Path.{◌≡◌, sym, ◌∙◌, ap}
 use mathlib.Core.Bool.{false≢true}
 use mathlib.Core.Option.{some}
-use Prim.Native.Nat.{ℕ, ◌+◌, ◌*◌, ◌-◌, ◌≤◌}
+use Prim.Native.Nat.{ℕ, ◌+◌}
 use native.Mathlib.Omega.{arith}
-use borrow.Author.Rules.{rules}
-use lib.ListN.{length, take, drop}
-use Rattle.listing.specs.Held.{next_paper, room}
+use lib.ListN.{take, drop}
+use Rattle.listing.specs.Held.{next_paper}
 use Rattle.listing.specs.Lines.{line_at, listed}
-use Rattle.listing.proofs.Listing.{Sent, onward, sent_none, comes-next, sent-more, sent-all, used_is, text-is, used-inside, next-at}
+use Rattle.listing.proofs.Listing.{onward, sent_none, comes-next, sent-more, sent-all, used_is, text-is, used-inside, next-at}
 use Rattle.units.proofs.list.Goals as goal
 use Rattle.units.proofs.list.Goals.{In-At}
 use Rattle.units.proofs.list.Given.{Over}

@@ -1,7 +1,6 @@
 -- `units::print` is safe: a line's text lies within its bytes.
 use mathlib.Core.Path.{sym}
 use lib.Seq.{length-take-le}
-use borrow.Author.Rules.{rules}
 use Rattle.units.proofs.print.Goals as goal
 
 pub slice_bounds-say-end : goal.slice_bounds-say-end
