@@ -1,6 +1,5 @@
 use Prim.Native.Nat.{◌-◌, ◌*◌}
 use Rattle.packet.specs.Lines.{line_length}
-use borrow.Author.Rules.{rules}
 use lib.ListN.{length}
 use mathlib.Core.Path.{◌≡◌}
 use Rattle.cost.proofs.by_value.Given as goal

@@ -1,5 +1,4 @@
 use Prim.Native.Nat.{◌-◌}
-use borrow.Author.Rules.{rules}
 use Rattle.cost.proofs.pages_printed.Given as goal
 
 abbrev pub invariant-loop-turn : goal.invariant-loop-turn

@@ -1,5 +1,4 @@
 -- `ending::complain_share` meets its contract: what is written is what the tally's text says.
-use borrow.Author.Rules.{rules}
 use Rattle.tally.proofs.Tallying.{share-counted, share-is}
 use Rattle.ending.proofs.complain_share.Goals as goal
 

@@ -11,7 +11,6 @@ use Rattle.printing.proofs.Shown.{page_shown}
 use Rattle.printing.proofs.Read as read
 use Rattle.printer.specs.Output.{output_of, output}
 use Rattle.printer.proofs.Parts.{output_in}
-use borrow.Author.Rules.{rules}
 use Rattle.printer.proofs.print_record.Goals as goal
 use Rattle.printer.proofs.print_record.Goals.{After-printed_page-printed, After-read_record-read}
 use Rattle.printer.proofs.print_record.Given.{Over}

@@ -3,7 +3,6 @@ use mathlib.Core.Path.{◌∙◌, ap}
 use mathlib.Core.List.{List, ◌++◌}
 use Prim.Native.Nat.{ℕ, ◌+◌}
 use native.Mathlib.Omega.{arith}
-use borrow.Author.Rules.{rules}
 use lib.ListN.{length, drop, replicate}
 use Rattle.letters.specs.Said.{stand_in_size, stand_in_text}
 use Rattle.texts.proofs.Putting.{put-fits}

@@ -2,7 +2,6 @@
 use mathlib.Core.Path.{◌≡◌, sym, ap, ◌∙◌}
 use Prim.Native.Nat.{◌+◌}
 use lib.ListN.{length, length-append}
-use borrow.Author.Rules.{rules}
 use Rattle.send.specs.Written.{output}
 use Rattle.send.proofs.print.Goals as goal
 use Rattle.send.proofs.print.Goals.{Start}

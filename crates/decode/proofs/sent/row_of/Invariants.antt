@@ -1,6 +1,5 @@
 use Prim.Native.Nat.{◌-◌}
 use Rattle.grid.specs.Grid.{columns}
-use borrow.Author.Rules.{rules}
 use Rattle.decode.proofs.sent.row_of.Given as goal
 
 abbrev pub invariant-loop-column : goal.invariant-loop-column

@@ -1,6 +1,5 @@
 use Prim.Native.Nat.{◌-◌}
 use Rattle.grid.specs.Grid.{cell_count}
-use borrow.Author.Rules.{rules}
 use Rattle.decode.proofs.shown.put_cells.Given as goal
 
 abbrev pub invariant-loop-place : goal.invariant-loop-place

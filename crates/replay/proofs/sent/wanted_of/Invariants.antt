@@ -1,6 +1,5 @@
 use Prim.Native.Nat.{◌-◌}
 use Rattle.grid.specs.Grid.{last_row}
-use borrow.Author.Rules.{rules}
 use Rattle.replay.proofs.sent.wanted_of.Given as goal
 
 abbrev pub invariant-loop-at : goal.invariant-loop-at
