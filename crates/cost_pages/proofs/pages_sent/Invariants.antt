@@ -1,7 +1,6 @@
 use Prim.Native.Nat.{◌-◌, ◌*◌}
 use Rattle.grid.specs.Grid.{rows}
 use Rattle.packet.specs.Lines.{line_length}
-use borrow.Author.Rules.{rules}
 use lib.ListN.{length}
 use mathlib.Core.Path.{◌≡◌}
 use Rattle.cost_pages.proofs.pages_sent.Given as goal

@@ -1,5 +1,4 @@
 use Prim.Native.Nat.{◌-◌}
-use borrow.Author.Rules.{rules}
 use Rattle.cost_pages.proofs.pages_shown.Given as goal
 
 abbrev pub invariant-loop-turn : goal.invariant-loop-turn
