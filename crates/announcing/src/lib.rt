@@ -59,6 +59,7 @@ fn one_older(marks: &[u8]) -> bool
     found
 }
 
+#[tactic(auto, unfolding(crate::specs::Told::sent_now))]
 fn sent_now(character: u8, mark: u8) -> u8
     ensures { result ≡ sent_now character mark }
 {
@@ -81,6 +82,7 @@ fn fresh_characters(cells: Cells) -> [u8; CELLS]
     sent
 }
 
+#[tactic(auto, unfolding(crate::specs::Told::row_number))]
 fn put_row_number(room: &mut [u8], at: usize, row: usize) -> usize
     requires { (at + 3 ≤ length room.old) × (row < rows) }
     ensures { Puts (row_number row) room.old at room.new result }

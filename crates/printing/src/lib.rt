@@ -38,6 +38,7 @@ pub struct Utf8Page {
     pub used: usize,
 }
 
+#[tactic(auto, unfolding(crate::specs::Printed::symbol_byte))]
 fn byte_of(symbol: Symbol) -> u8
     ensures { result ≡ symbol_byte symbol }
 {

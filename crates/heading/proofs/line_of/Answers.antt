@@ -34,7 +34,7 @@ put_word-said-requires c = has_room (first-is (goal.at.put_word-said-requires c)
 
 pub slice_bounds-put-end-4 : goal.slice_bounds-put-end-4
 slice_bounds-put-end-4 c =
-    mended-counted c.args.mended c.mended_text-count.ensures.value
+    mended-counted _ c.mended_text-count.ensures.value
 
 pub returns : goal.returns
 unfolding line_held line_text
