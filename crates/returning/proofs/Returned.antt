@@ -88,7 +88,7 @@ module _ (page : Page) (gives : Gives page) (wanted : List Bool) (receiver : Rec
   held-returned =
       record {
         magazine = ours;
-        number_and_time_law = ap number_and_time holding.header ∙ numbers_kept page.header;
+        same_number_and_time = ap number_and_time holding.header ∙ numbers_kept page.header;
         c4 = ap (λ (h : Header). control_bit h 4) holding.header ∙ c4_set page.header;
         later_control = ap c5_to_c14 holding.header ∙ later_kept page.header;
         header = holding.header;

@@ -89,7 +89,7 @@ c5_to_c14 header = map (control_bit header) (5 ∷ 6 ∷ 7 ∷ 8 ∷ 9 ∷ 10 �
 -- the page that comes back has the number, time and C5 to C14 of the given one, C4 set, and is clean
 pub record Returned (given : Page) (wanted : List Bool) (page : Page) : Type 0 where
   pub magazine : page.magazine ≡ given.magazine
-  pub number_and_time_law : number_and_time page.header ≡ number_and_time given.header
+  pub same_number_and_time : number_and_time page.header ≡ number_and_time given.header
   pub c4 : control_bit page.header 4 ≡ 1
   pub later_control : c5_to_c14 page.header ≡ c5_to_c14 given.header
   pub header : page.header ≡ with_c4 given.header
