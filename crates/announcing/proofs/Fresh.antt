@@ -1,25 +1,28 @@
 -- What was sent this time, cell by cell; and rows from earlier, mark by mark.
+use Rattle.std.specs.Prelude.{Result, Ok, Err}
+use Rattle.std.specs.Result.{result_unwrap_or}
 use mathlib.Core.Path.{◌≡◌, refl, sym, ◌∙◌, ap}
-use mathlib.Core.Bool.{Bool, false, ◌||◌}
+use mathlib.Core.Bool.{Bool}
 use mathlib.Core.List.{List, [], ◌∷◌, zip_with}
-use Prim.Native.Nat.{ℕ, zero, suc, ◌+◌, ◌<◌}
-use native.Mathlib.Numerals.{add-one}
+use Prim.Native.Nat.{ℕ, zero, suc, ◌<◌}
 use native.Mathlib.Omega.{arith}
-use lib.Dec.{T, eqb}
-use lib.ListN.{length, get_or, drop}
-use lib.Seq.{drop-cons, ext_get_or}
+use lib.Dec.{T}
+use lib.ListN.{length, get_or}
+use lib.Seq.{ext_get_or}
 use Rattle.laws.specs.Every.{every}
 use Rattle.laws.specs.Fields.{fits}
-use Rattle.laws.proofs.Bools.{both_left, both_right, or_assoc, passed}
+use Rattle.laws.proofs.Bools.{both_left, both_right, passed}
 use Rattle.laws.proofs.Keeps.{both, chosen}
 use Rattle.grid.specs.Grid.{cell_count}
-use Rattle.page.specs.Lawful.{is_fresh, older, space}
-use Rattle.page.specs.Reading.{page_read}
+use Rattle.page.specs.Lawful.{is_fresh, space}
+use Rattle.page.specs.Reading.{page_given, page_read, zero_page}
 use Rattle.page.specs.Records.{character_width}
 use Rattle.page.specs.declared.Cells.{Cells}
+use Rattle.page.specs.declared.Page.{Page}
+use Rattle.page.specs.declared.ReadError.{ReadError}
 use Rattle.printing.proofs.Read.{characters_read, marks_read, page_of_law}
 use Rattle.announcing.specs.Private.{Printable, Whole}
-use Rattle.announcing.specs.Told.{fresh_characters, one_older, sent_now}
+use Rattle.announcing.specs.Told.{fresh_characters, sent_now}
 
 -- ---- two lists cell by cell
 
@@ -83,16 +86,9 @@ printable_read bytes =
           (fresh-length cells whole, passed _ (fresh_fit cells.characters cells.marks (rw characters.1 tt)));
     }
 
--- ---- marks from a place on
+-- ---- the page of an answer, or of zeros
 
-pub none_older : one_older [] ≡ false
-unfolding one_older
-none_older = refl
-
-pub older_from : (found : Bool) (marks : List ℕ) (i : ℕ) → i < length marks
-    → (found || eqb (get_or marks i 0) older) || one_older (drop (i + 1) marks) ≡ found || one_older (drop i marks)
-unfolding one_older
-older_from found marks i h =
-    or_assoc found (eqb (get_or marks i 0) older) (one_older (drop (i + 1) marks))
-    ∙ (let here : drop i marks ≡ get_or marks i 0 ∷ drop (i + 1) marks = rw (add-one i) (drop-cons marks i 0 h) in
-    ap (λ (rest : List ℕ). found || one_older rest) (sym here))
+pub given_or : (answer : Result Page ReadError) → result_unwrap_or answer zero_page ≡ page_given answer
+unfolding page_given
+given_or (Ok page) = refl
+given_or (Err error) = refl

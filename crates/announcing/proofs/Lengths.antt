@@ -1,4 +1,5 @@
 -- No text is longer than there is room for it.
+use Rattle.std.specs.Prelude.{Option, Some, None}
 use mathlib.Core.Bool.{cond}
 use mathlib.Core.List.{List, [], ◌++◌}
 use Prim.Native.Nat.{ℕ, zero, suc, ◌+◌, ◌*◌, ◌^◌, ◌<◌, ◌≤◌}
@@ -57,18 +58,18 @@ cells_length_law control cells printable =
     let both = length-append (left_out_text cells.marks) (utf8_page_text control (fresh_characters cells)) in
     omega arith
 
-said_length : (page : Page) → Printable page.cells → (mended : ℕ) → mended < 2 ^ 64 → (which : Word) → length (page_said which mended page) ≤ longest
+said_length : (page : Page) → Printable page.cells → (mended : ℕ) → mended < 2 ^ 64 → (which : Option Word) → length (page_said which mended page) ≤ longest
 unfolding page_said
-said_length page printable mended counted word.None = omega arith
-said_length page printable mended counted word.Clean =
+said_length page printable mended counted None = omega arith
+said_length page printable mended counted (Some word.Clean) =
     let cells = cells_length_law page.header.control page.cells printable in
-    let line = line_length_law word.Clean page.magazine page.header mended counted in
+    let line = line_length_law (Some word.Clean) page.magazine page.header mended counted in
     let both = length-append (page_line word.Clean mended page) (cells_text page.header.control page.cells) in
     omega arith
-said_length page printable mended counted word.Doubt = let line = line_length_law word.Doubt page.magazine page.header mended counted in omega arith
-said_length page printable mended counted word.Missing = let line = line_length_law word.Missing page.magazine page.header mended counted in omega arith
+said_length page printable mended counted (Some word.Doubt) = let line = line_length_law (Some word.Doubt) page.magazine page.header mended counted in omega arith
+said_length page printable mended counted (Some word.Missing) = let line = line_length_law (Some word.Missing) page.magazine page.header mended counted in omega arith
 
-pub announced_length : (which : Word) (mended : ℕ) → mended < 2 ^ 64 → (lent : List ℕ) → length (announced which mended lent) ≤ longest
+pub announced_length : (which : Option Word) (mended : ℕ) → mended < 2 ^ 64 → (lent : List ℕ) → length (announced which mended lent) ≤ longest
 unfolding announced
 announced_length which mended counted lent =
     let bytes = take record_length lent in

@@ -1,4 +1,5 @@
 -- What is said over lines, stop by stop: playing to the next stop and saying what closed there says what the lines on the way say one by one.
+use Rattle.std.specs.Prelude.{None}
 use mathlib.Core.Path.{◌≡◌, refl, sym, ◌∙◌, ap, ap₂, subst}
 use mathlib.Core.Bool.{Bool, true, false, cond}
 use mathlib.Core.List.{List, [], ◌∷◌, ◌++◌, append-nil}
@@ -18,7 +19,6 @@ use Rattle.receiver.specs.declared.Mended.{Mended}
 use Rattle.receiver.proofs.Playing.{turn, turn-ends}
 use Rattle.watch.specs.Watched.{lines_passed, recording_watched, without}
 use Rattle.watch.specs.declared.Watched.{Watched}
-use Rattle.watch.specs.declared.Word.TheVariants as word
 use Rattle.watch.proofs.Watching.{AtLeast, Covers, at_least_itself, at-least-less, at-least-more, covers_more, line_on, more-alone, one_stops, recording_more, without-both, without_none}
 use Rattle.announcing.specs.Private.{stop_said}
 use Rattle.announcing.specs.Said.{Saying, line_said, lines_said, said}
@@ -158,7 +158,7 @@ module _ (before : Saying) (lines : List ℕ) (d : length lines ≡ 0 → ⊥) w
     abbrev passed : Saying
     passed = record { receiver = entry.receiver; watch = lines_passed before.watch 1 brings; lent = entry.lent; text = before.text }
 
-    silent : (text : List ℕ) → text ++ announced word.None 0 entry.lent ≡ text
+    silent : (text : List ℕ) → text ++ announced None 0 entry.lent ≡ text
     unfolding announced page_said
     silent text = append-nil text
 
@@ -179,7 +179,7 @@ module _ (before : Saying) (lines : List ℕ) (d : length lines ≡ 0 → ⊥) w
     ends-here : (used : ℕ) (so : Mended) → after_play before used so (ended entry.receiver entry.lent (used + 1) (summed so brings)) ≡ passed
     unfolding after_play ended recording_watched
     ends-here used so =
-        ap₂ (λ (n : ℕ) (m : Mended). record { receiver = entry.receiver; watch = lines_passed before.watch n m; lent = entry.lent; text = before.text ++ announced word.None 0 entry.lent })
+        ap₂ (λ (n : ℕ) (m : Mended). record { receiver = entry.receiver; watch = lines_passed before.watch n m; lent = entry.lent; text = before.text ++ announced None 0 entry.lent })
         (one_more used) (more-alone so brings)
         ∙ ap (λ (text : List ℕ). record { receiver = entry.receiver; watch = lines_passed before.watch 1 brings; lent = entry.lent; text = text }) (silent before.text)
 

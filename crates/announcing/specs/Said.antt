@@ -6,8 +6,8 @@ use Rattle.packet.specs.Lines.{line_length}
 use Rattle.printing.specs.Letters.{utf8_page_size}
 use Rattle.receiver.specs.Entries.{Entered, line_entered}
 use Rattle.receiver.specs.declared.Receiver.{Receiver}
-use Rattle.tally.specs.Tally.{share_held}
-use Rattle.tally.specs.declared.ShareText.{ShareText}
+use Rattle.tally.specs.Tally.{share_held, share_size}
+use Rattle.texts.specs.declared.Text.{Text}
 use Rattle.heading.specs.Line.{line_size}
 use Rattle.watch.specs.Watched.{line_watched}
 use Rattle.watch.specs.declared.Watch.{Watch}
@@ -47,7 +47,7 @@ unfolding lines_said
 said before lines = lines_said (length lines) before lines
 
 -- when there are no more lines: how many bytes were mended in all of them, in how many, and how many there were
-abbrev pub share_said : Watch → ShareText
+abbrev pub share_said : Watch → Text share_size
 share_said watch = share_held watch.mended watch.mended_lines watch.lines
 
 -- ---- what one call does

@@ -1,7 +1,8 @@
 -- What is said of a page that closed. Nothing in doubt is ever read out: the text follows only where the page is clean, and it is what was sent this time and nothing
 -- else. Cells that are not fresh are taken as spaces before the page is displayed, and one line says which rows stand there from earlier and were left out. By demand 3 (crate `demands`, A) each row
 -- from 1 on of a page that closed clean is wholly fresh or has no fresh cell, so that whole rows are left out; nothing here needs it.
-use Rattle.std.specs.Prelude.{Bool, false, cond, ◌||◌, ℕ, zero, suc, ◌*◌, ◌/◌, ◌%◌, eqb, ltb, take, drop}
+use Rattle.std.specs.Prelude.{Option, Some, None, Bool, cond, ℕ, zero, suc, ◌*◌, ◌/◌, ◌%◌, eqb, ltb, take, drop}
+use Rattle.std.specs.List.{list_any}
 use mathlib.Core.List.{List, [], ◌∷◌, ◌++◌, zip_with}
 use Rattle.laws.specs.Text.{line_feed}
 use Rattle.texts.specs.Decimal.{digit_text}
@@ -31,8 +32,7 @@ fresh_characters cells = zip_with sent_now cells.characters cells.marks
 
 -- one of some cells is marked older
 unfoldable pub one_older : List ℕ → Bool
-one_older [] = false
-one_older (mark ∷ marks) = eqb mark older || one_older marks
+one_older marks = list_any (λ mark. eqb mark older) marks
 
 -- a row's number behind a space: " 9", " 10"
 unfoldable pub row_number : ℕ → List ℕ
@@ -61,21 +61,21 @@ left_out_text marks = cond (one_older marks) (left_out_words ++ (older_rows rows
 
 -- the line that says what closed
 abbrev pub page_line : Word → ℕ → Page → List ℕ
-page_line which mended page = line_text which page.magazine page.header mended
+page_line which mended page = line_text (Some which) page.magazine page.header mended
 
 -- of a clean page, behind its line: the rows that were left out, and the page in UTF-8, under its own control bits
 unfoldable pub cells_text : ℕ → Cells → List ℕ
 unfolding left_out_text fresh_characters utf8_page_text
 cells_text control cells = left_out_text cells.marks ++ utf8_page_text control (fresh_characters cells)
 
-unfoldable pub page_said : Word → ℕ → Page → List ℕ
+unfoldable pub page_said : Option Word → ℕ → Page → List ℕ
 unfolding line_text cells_text
-page_said word.None mended page = []
-page_said word.Clean mended page = page_line word.Clean mended page ++ cells_text page.header.control page.cells
-page_said word.Doubt mended page = page_line word.Doubt mended page
-page_said word.Missing mended page = page_line word.Missing mended page
+page_said None mended page = []
+page_said (Some word.Clean) mended page = page_line word.Clean mended page ++ cells_text page.header.control page.cells
+page_said (Some word.Doubt) mended page = page_line word.Doubt mended page
+page_said (Some word.Missing) mended page = page_line word.Missing mended page
 
 -- of the record that was written as the page closed: what lies past it does not matter
-unfoldable pub announced : Word → ℕ → List ℕ → List ℕ
+unfoldable pub announced : Option Word → ℕ → List ℕ → List ℕ
 unfolding page_said page_read
 announced which mended lent = page_said which mended (page_read (take record_length lent))

@@ -16,11 +16,11 @@ ghost use Rattle.announcing.specs.Told.{announced, cells_text, fresh_characters,
 
 use grid::{CELLS, COLUMNS, ROWS};
 use packet::LINE_LENGTH;
-use page::{Cells, FRESH, OLDER, Page, RECORD_LENGTH, SPACE};
+use page::{Cells, FRESH, OLDER, Page, RECORD_LENGTH, SPACE, ZERO_PAGE};
 use printing::UTF8_PAGE;
 use receiver::Receiver;
-use tally::ShareText;
-use texts::digit_text;
+use tally::SHARE;
+use texts::{Text, digit_text};
 use watch::{Watch, Word};
 
 // "rows from earlier, left out:", three bytes for each row, and a line feed.
@@ -38,7 +38,7 @@ pub struct Announced {
     pub length: usize,
 }
 
-// Puts a text into the room at a place, and answers the place behind it.
+// Puts a text into the room at a place, and answers the place behind it. So do all that follow: the room is lent, and a struct that holds it would have to promise in each function that it is the same one.
 fn put(room: &mut [u8], at: usize, text: &[u8]) -> usize
     requires { at + length text.now ≤ length room.old }
     ensures { Puts text.now room.old at room.new result }
@@ -47,16 +47,11 @@ fn put(room: &mut [u8], at: usize, text: &[u8]) -> usize
 }
 
 // Whether one of some marks is older.
+#[tactic(auto, unfolding(crate::specs::Told::one_older))]
 fn one_older(marks: &[u8]) -> bool
     ensures { result ≡ one_older marks.now }
 {
-    let mut found = false;
-    let mut i = 0;
-    while i < marks.len() {
-        found = found | (marks[i] == OLDER);
-        i += 1;
-    }
-    found
+    marks.iter().any(|mark| *mark == OLDER)
 }
 
 #[tactic(auto, unfolding(crate::specs::Told::sent_now))]
@@ -67,17 +62,13 @@ fn sent_now(character: u8, mark: u8) -> u8
 }
 
 // What was sent this time: a space for each cell that is not fresh.
-fn fresh_characters(cells: Cells) -> [u8; CELLS]
-    requires { Whole cells }
-    ensures { result ≡ fresh_characters cells }
+fn fresh_characters(cells: &Cells) -> [u8; CELLS]
+    requires { Whole cells.now }
+    ensures { result ≡ fresh_characters cells.now }
 {
-    let characters = cells.characters;
-    let marks = cells.marks;
     let mut sent = [SPACE; CELLS];
-    let mut i = 0;
-    while i < CELLS {
-        sent[i] = sent_now(characters[i], marks[i]);
-        i += 1;
+    for i in 0..CELLS {
+        sent[i] = sent_now(cells.characters[i], cells.marks[i]);
     }
     sent
 }
@@ -113,12 +104,9 @@ fn put_older_rows(room: &mut [u8], at: usize, marks: &[u8]) -> usize
     ensures { Puts (older_rows rows marks.now) room.old at room.new result }
 {
     let mut end = at;
-    let mut row = 0;
-    while row < ROWS {
+    for row in 0..ROWS {
         let from = COLUMNS * row;
-        let to = from + COLUMNS;
-        end = put_if_older(room, end, row, &marks[from..to]);
-        row += 1;
+        end = put_if_older(room, end, row, &marks[from..from + COLUMNS]);
     }
     end
 }
@@ -136,64 +124,60 @@ fn put_left_out(room: &mut [u8], at: usize, marks: &[u8]) -> usize
     at
 }
 
-// A clean page, behind its line.
-fn put_cells(room: &mut [u8], at: usize, cells: Cells, control: u16) -> usize
-    requires { (at + (left_out_size + utf8_page_size) ≤ length room.old) × Printable cells }
-    ensures { Puts (cells_text control cells) room.old at room.new result }
+// A clean page, behind its line. The page of a record is never refused, and it is lent from the answer, out of which it would be copied.
+fn put_cells(room: &mut [u8], at: usize, cells: &Cells, control: u16) -> usize
+    requires { (at + (left_out_size + utf8_page_size) ≤ length room.old) × Printable cells.now }
+    ensures { Puts (cells_text control cells.now) room.old at room.new result }
 {
-    let marks = cells.marks;
-    let rows = put_left_out(room, at, &marks);
-    let sent = fresh_characters(cells);
-    let page = printing::utf8_page(&sent, control);
-    let text = page.text;
-    put(room, rows, &text[..page.used])
+    let rows = put_left_out(room, at, &cells.marks);
+    match &printing::utf8_page(&fresh_characters(cells), control) {
+        Ok(page) => put(room, rows, page.text.as_bytes()),
+        Err(_) => unreachable!(),
+    }
 }
 
 // The line that says what closed.
-fn put_line(room: &mut [u8], at: usize, page: Page, word: Word, mended: u64) -> usize
+fn put_line(room: &mut [u8], at: usize, page: &Page, word: Word, mended: u64) -> usize
     requires { at + line_size ≤ length room.old }
-    ensures { Puts (page_line word mended page) room.old at room.new result }
+    ensures { Puts (page_line word mended page.now) room.old at room.new result }
 {
-    let header = page.header;
-    let line = heading::line_of(word, page.magazine, header, mended);
-    let bytes = line.bytes;
-    put(room, at, &bytes[..line.used])
+    let line = heading::line_of(Some(word), page.magazine, page.header, mended);
+    put(room, at, line.as_bytes())
 }
 
 // The record alone, where more was lent.
+#[tactic(auto, using(laws::proofs::Lists::take_min))]
 fn first_bytes(record: &[u8]) -> &[u8]
     ensures { result.now ≡ take record_length «record».now }
 {
-    if record.len() < RECORD_LENGTH {
-        return record;
-    }
-    &record[..RECORD_LENGTH]
+    &record[..RECORD_LENGTH.min(record.len())]
 }
 
 fn page_in(record: &[u8]) -> Page
     ensures { result ≡ page_read (take record_length «record».now) }
 {
-    let read = page::read_record(first_bytes(record));
-    let page = read.page;
-    page
+    page::read_record(first_bytes(record)).unwrap_or(ZERO_PAGE)
 }
 
 // All that is said of a line by its word and by how many bytes were mended, from the record that was written where it closed a page.
-fn put_announced(room: &mut [u8], at: usize, word: Word, mended: u64, record: &[u8]) -> usize
+fn put_announced(
+    room: &mut [u8],
+    at: usize,
+    word: Option<Word>,
+    mended: u64,
+    record: &[u8],
+) -> usize
     requires { at + longest ≤ length room.old }
     ensures { Puts (announced word mended «record».now) room.old at room.new result }
 {
+    let Some(word) = word else {
+        return at;
+    };
+    let page = page_in(record);
+    let line = put_line(room, at, &page, word, mended);
     match word {
-        Word::None => at,
-        Word::Clean => {
-            let page = page_in(record);
-            let line = put_line(room, at, page, Word::Clean, mended);
-            let cells = page.cells;
-            let header = page.header;
-            put_cells(room, line, cells, header.control)
-        }
-        Word::Doubt => put_line(room, at, page_in(record), Word::Doubt, mended),
-        Word::Missing => put_line(room, at, page_in(record), Word::Missing, mended),
+        Word::Clean => put_cells(room, line, &page.cells, page.header.control),
+        Word::Doubt | Word::Missing => line,
     }
 }
 
@@ -201,10 +185,7 @@ fn put_announced(room: &mut [u8], at: usize, word: Word, mended: u64, record: &[
 fn bytes_of(used: usize, rest: usize) -> usize
     ensures { result ≡ min (used * line_length) rest }
 {
-    if used > rest / LINE_LENGTH {
-        return rest;
-    }
-    used * LINE_LENGTH
+    used.saturating_mul(LINE_LENGTH).min(rest)
 }
 
 // Plays to the next stop, or to the end of the lines, and says what closed there.
@@ -212,17 +193,12 @@ fn to_next_stop(before: Announced, lines: &[u8], record: &mut [u8], room: &mut [
     requires { (before.length + longest ≤ length room.old) × (before.used + length lines.now ≤ length room.old) }
     ensures { Stops before lines.now «record».old room.old result «record».new room.new }
 {
-    let receiver = before.receiver;
-    let recorded = receiver::take_recording(receiver, lines, record);
-    let watch = before.watch;
-    let watched = watch::watch_recording(watch, recorded);
-    let word = watched.word;
-    let length = put_announced(room, before.length, word, watched.own, record);
-    let next = recorded.receiver;
-    let more = watched.watch;
+    let recorded = receiver::take_recording(before.receiver, lines, record);
+    let watched = watch::watch_recording(before.watch, recorded);
+    let length = put_announced(room, before.length, watched.word, watched.own, record);
     Announced {
-        receiver: next,
-        watch: more,
+        receiver: recorded.receiver,
+        watch: watched.watch,
         used: before.used + bytes_of(recorded.used, lines.len()),
         length,
     }
@@ -232,8 +208,7 @@ fn to_next_stop(before: Announced, lines: &[u8], record: &mut [u8], room: &mut [
 fn fitting_bytes(lines: usize, room: usize) -> usize
     ensures { result ≡ min (room / longest * line_length) lines }
 {
-    let most = room / LONGEST * LINE_LENGTH;
-    if most < lines { most } else { lines }
+    (room / LONGEST * LINE_LENGTH).min(lines)
 }
 
 // Enters lines, end to end, and says what closes into the room: as many lines as the room has room for. What lies in the room behind the text is as it was.
@@ -254,15 +229,14 @@ pub fn announce(
         length: 0,
     };
     while state.used < end {
-        let used = state.used;
-        let next = to_next_stop(state, &lines[used..end], record, room);
-        state = next;
+        let part = &lines[state.used..end];
+        state = to_next_stop(state, part, record, room);
     }
     state
 }
 
 // What is said when there are no more lines: how many bytes were mended, and in how many of the lines. The second promise is for callers, who lend the text on.
-pub fn share_of(watch: Watch) -> ShareText
+pub fn share_of(watch: Watch) -> Text<SHARE>
     ensures value { result ≡ share_said watch }
     ensures bytes_len { (length result.bytes ≡ share_size) × (result.used ≤ share_size) }
 {

@@ -1,12 +1,11 @@
 -- The page that is asked for: its number in three digits, "100", or with a time code behind a stroke, "100/1234". Whether there is such a page is not
 -- asked here: the receiver's constructor refuses what is out of range by 13.
 use Rattle.std.specs.Prelude.{Bool, cond, ◌&&◌, List, ℕ, ◌-◌, eqb, leb, length, get_or}
+use Rattle.std.specs.Prelude as code
 use Rattle.std.proofs.Math.Option.{Option, none, some}
 use Rattle.receiver.specs.declared.Selection.{Selection}
 use Rattle.receiver.specs.declared.When.{When}
 use Rattle.receiver.specs.declared.When.TheVariants.{Any, Time}
-use Rattle.asking.specs.declared.Asked.{Asked}
-use Rattle.asking.specs.declared.Asked.TheVariants.{Page, NoPage}
 
 -- "0" to "9"
 unfoldable pub is_digit : ℕ → Bool
@@ -48,6 +47,7 @@ asked argument =
     (cond (is_number argument && is_time argument) (some (selection_asked argument (time_asked argument))) none)
     none)
 
-unfoldable pub asked_for : Asked → Option Selection
-asked_for (Page selection) = some selection
-asked_for NoPage = none
+-- what the code gives, as one of these definitions
+unfoldable pub asked_for : code.Option Selection → Option Selection
+asked_for (code.Some selection) = some selection
+asked_for code.None = none

@@ -11,38 +11,32 @@ const NUMBER: usize = 3;
 
 const TIMED: usize = 8;
 
-#[derive(Drop)]
-pub enum Asked {
-    Page(Selection),
-    NoPage,
-}
-
+#[tactic(auto, unfolding(crate::specs::Asked::digit_at))]
 fn digit_at(argument: &[u8], place: usize) -> bool
     ensures { result ≡ digit_at argument.now place }
 {
-    if place >= argument.len() {
-        return false;
-    }
-    let byte = argument[place];
-    (0x30 <= byte) & (byte <= 0x39)
+    argument
+        .get(place)
+        .is_some_and(|byte| byte.is_ascii_digit())
 }
 
+#[tactic(auto, unfolding(crate::specs::Asked::value_at))]
 fn value_at(argument: &[u8], place: usize) -> u8
     ensures { result ≡ value_at argument.now place }
 {
-    if place >= argument.len() {
-        return 0;
-    }
-    let byte = argument[place];
-    if byte < 0x30 { 0 } else { byte - 0x30 }
+    argument
+        .get(place)
+        .map_or(0, |byte| byte.saturating_sub(b'0'))
 }
 
+#[tactic(auto, unfolding(crate::specs::Asked::is_number))]
 fn is_number(argument: &[u8]) -> bool
     ensures { result ≡ is_number argument.now }
 {
     digit_at(argument, 0) & digit_at(argument, 1) & digit_at(argument, 2)
 }
 
+#[tactic(auto, unfolding(crate::specs::Asked::is_time))]
 fn is_time(argument: &[u8]) -> bool
     requires { length argument.now ≡ 8 }
     ensures { result ≡ is_time argument.now }
@@ -54,6 +48,7 @@ fn is_time(argument: &[u8]) -> bool
         & digit_at(argument, 7)
 }
 
+#[tactic(auto, unfolding(crate::specs::Asked::time_asked))]
 fn time_asked(argument: &[u8]) -> When
     ensures { result ≡ time_asked argument.now }
 {
@@ -65,6 +60,7 @@ fn time_asked(argument: &[u8]) -> When
     }
 }
 
+#[tactic(auto, unfolding(crate::specs::Asked::selection_asked))]
 fn selection_asked(argument: &[u8], when: When) -> Selection
     ensures { result ≡ selection_asked argument.now when }
 {
@@ -76,22 +72,20 @@ fn selection_asked(argument: &[u8], when: When) -> Selection
     }
 }
 
-// The page that an argument asks for.
-pub fn page_asked(argument: &[u8]) -> Asked
+// The page that an argument asks for, or none.
+pub fn page_asked(argument: &[u8]) -> Option<Selection>
     ensures { asked_for result ≡ asked argument.now }
 {
     if argument.len() == NUMBER {
         if is_number(argument) {
-            let when = When::Any;
-            return Asked::Page(selection_asked(argument, when));
+            return Some(selection_asked(argument, When::Any));
         }
-        return Asked::NoPage;
+        return None;
     }
     if argument.len() == TIMED {
         if is_number(argument) & is_time(argument) {
-            let when = time_asked(argument);
-            return Asked::Page(selection_asked(argument, when));
+            return Some(selection_asked(argument, time_asked(argument)));
         }
     }
-    Asked::NoPage
+    None
 }

@@ -1,29 +1,18 @@
 -- A text with marks in it: its front, and the pieces behind.
 use mathlib.Core.Path.{◌≡◌, refl, ap, ◌∙◌, sym}
-use mathlib.Core.Bool.{Bool, true, false, cond}
+use mathlib.Core.Bool.{Bool, true, false, not, cond}
 use mathlib.Core.List.{List, [], ◌∷◌}
-use Prim.Native.Nat.{ℕ, suc, ◌+◌, ◌-◌, ◌<◌}
+use Prim.Native.Nat.{ℕ, suc, ◌+◌, ◌-◌, ◌<◌, ◌≤◌}
 use native.Mathlib.Nat.{not-suc-le-zero}
 use native.Mathlib.Numerals.{add-one}
 use native.Mathlib.Omega.{arith}
-use borrow.Author.Tests.{eq-eqb, ne_eqb}
 use lib.Dec.{eqb}
-use lib.ListN.{length, get_or, take, drop, length-drop}
-use lib.Seq.{drop-cons, take_all}
+use lib.ListN.{length, take, drop, length-drop}
+use lib.Seq.{take_all}
+use Rattle.std.specs.List.{position_or_len}
 use Rattle.choosing.specs.Chosen.{front, others, pieces}
 
 module _ (mark : ℕ) where
-  -- at a mark the front ends
-  pub front-at-mark : (text : List ℕ) (i : ℕ) → i < length text → get_or text i 0 ≡ mark → length (front mark (drop i text)) ≡ 0
-  unfolding front
-  front-at-mark text i h e = rw (drop-cons text i 0 h, eq-eqb (get_or text i 0) mark e)
-
-  -- elsewhere it goes on
-  pub front-goes-on : (text : List ℕ) (i : ℕ) → i < length text → (get_or text i 0 ≡ mark → ⊥)
-      → length (front mark (drop i text)) ≡ suc (length (front mark (drop (suc i) text)))
-  unfolding front
-  front-goes-on text i h e = rw (drop-cons text i 0 h, ne_eqb (get_or text i 0) mark e)
-
   -- the front is so many bytes of the text
   front-is : (text : List ℕ) → take (length (front mark text)) text ≡ front mark text
   unfolding front
@@ -33,6 +22,24 @@ module _ (mark : ℕ) where
         → take (length (cond is [] (byte ∷ front mark text))) (byte ∷ text) ≡ cond is [] (byte ∷ front mark text)
     by true e = refl
     by false e = ap (λ (t : List ℕ). byte ∷ t) e
+
+  pub front_short : (text : List ℕ) → length (front mark text) ≤ length text
+  unfolding front
+  front_short [] = omega arith
+  front_short (byte ∷ text) = by (eqb byte mark) (front_short text) where
+    by : (is : Bool) → length (front mark text) ≤ length text → length (cond is [] (byte ∷ front mark text)) ≤ suc (length text)
+    by true h = omega arith
+    by false h = omega arith
+
+  -- it is as long as there are bytes that are no mark
+  pub front_length : (text : List ℕ) → position_or_len (λ byte. eqb byte mark) text ≡ length (front mark text)
+  unfolding front
+  front_length [] = refl
+  front_length (byte ∷ text) = by (eqb byte mark) (front_length text) where
+    by : (is : Bool) → position_or_len (λ byte. eqb byte mark) text ≡ length (front mark text)
+        → cond (not is) (1 + position_or_len (λ byte. eqb byte mark) text) 0 ≡ length (cond is [] (byte ∷ front mark text))
+    by true e = refl
+    by false e = omega arith
 
   no-others : (text : List ℕ) → length (front mark text) ≡ length text → others mark text ≡ []
   unfolding front others

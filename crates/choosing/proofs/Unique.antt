@@ -1,25 +1,27 @@
 -- Any two answers that meet the public function's contract are equal, said of the generated contract.
 use mathlib.Core.Path.{◌≡◌, refl, ◌∙◌, sym}
 use mathlib.Core.Bool.{Bool, true, false}
+use mathlib.Core.List.{List}
+use Rattle.std.specs.Prelude.{Option, Some, None}
 use Rattle.laws.specs.Unique.{Unique}
 use Rattle.laws.proofs.Inverse.{told_apart}
-use Rattle.choosing.specs.Chosen.{says_rows}
-use Rattle.choosing.specs.declared.ChoiceAnswer.{ChoiceAnswer}
-use Rattle.choosing.specs.declared.ChoiceAnswer.TheVariants.{Rows, NoRows}
+use Rattle.choosing.specs.Chosen.{says_rows, wanted_of}
 use Rattle.choosing.specs.contracts.rows_asked as rows-asked
 use Rattle.choosing.proofs.rows_asked.Reads as rows-asked-reads
 
--- the answer, read back
-abbrev answer_back : Bool → ChoiceAnswer
-answer_back true = Rows
-answer_back false = NoRows
+-- the answer, by whether it says rows and by the rows that it says
+abbrev read : Option (List Bool) → Bool × List Bool
+read answer = (says_rows answer, wanted_of answer)
 
-answer_back_law : (answer : ChoiceAnswer) → answer_back (says_rows answer) ≡ answer
-unfolding says_rows
-answer_back_law Rows = refl
-answer_back_law NoRows = refl
+abbrev answer_back : Bool × List Bool → Option (List Bool)
+answer_back (true, wanted) = Some wanted
+answer_back (false, wanted) = None
+
+answer_back_law : (answer : Option (List Bool)) → answer_back (read answer) ≡ answer
+unfolding says_rows wanted_of
+answer_back_law (Some wanted) = refl
+answer_back_law None = refl
 
 pub rows_asked_unique : Unique rows-asked.ended rows-asked-reads.Post
 rows_asked_unique κs a r r' ws ws' p q =
-    let answers = told_apart says_rows answer_back answer_back_law r.answer r'.answer (p.0 ∙ sym q.0) in
-    (λ i. record { answer = answers i; wanted = (p.1 ∙ sym q.1) i }, refl)
+    (told_apart read answer_back answer_back_law r r' (λ i. ((p.0 ∙ sym q.0) i, (p.1 ∙ sym q.1) i)), refl)

@@ -1,17 +1,12 @@
 -- The rows that an argument asks for, "1-5,20": one or more parts with a comma between them. A part is a row's number, or two of them with a hyphen
 -- between them, the first not above the second, and has all rows from the one to the other. A row's number is one or two decimal digits. Parts may
 -- overlap, and their order does not matter. An argument that is anything else names no rows.
-use Rattle.std.specs.Prelude.{Bool, true, false, cond, ◌&&◌, ◌||◌, List, [], ◌∷◌, map, ℕ, zero, suc, ◌+◌, ◌*◌, ◌-◌, eqb, leb, replicate}
+use Rattle.std.specs.Prelude.{Bool, true, false, cond, ◌&&◌, ◌||◌, List, [], ◌∷◌, map, ℕ, zero, suc, ◌+◌, ◌*◌, ◌-◌, eqb, leb, replicate, Option, Some, None, is_some}
 use Rattle.laws.specs.Every.{every}
 use Rattle.grid.specs.Grid.{last_row}
-use Rattle.choosing.specs.declared.ChoiceAnswer.{ChoiceAnswer}
-use Rattle.choosing.specs.declared.ChoiceAnswer.TheVariants.{Rows, NoRows}
 use Rattle.choosing.specs.declared.Span.{Span}
 
--- row 0, the header, can't be asked for, and so 0 stands for no row
-abbrev pub no_row : ℕ
-no_row = 0
-
+-- row 0, the header, can't be asked for
 abbrev pub first_row : ℕ
 first_row = 1
 
@@ -42,18 +37,19 @@ is_digit byte = leb 0x30 byte && leb byte 0x39
 unfoldable pub count : ℕ → ℕ → ℕ
 count tens units = (tens - 0x30) * 10 + (units - 0x30)
 
--- the row of two digits; none where one is no digit, or their number is above the last row
-unfoldable pub row_of : ℕ → ℕ → ℕ
+-- the row of two digits; none where one is no digit, or their number is below the first row or above the last
+unfoldable pub row_of : ℕ → ℕ → Option ℕ
 unfolding count
-row_of tens units = cond (is_digit tens && is_digit units && leb (count tens units) last_row) (count tens units) no_row
+row_of tens units =
+    cond (is_digit tens && is_digit units && (leb first_row (count tens units) && leb (count tens units) last_row)) (Some (count tens units)) None
 
 -- the row of a text of one or two digits: one digit counts as it does behind a "0"
-unfoldable pub row_in : List ℕ → ℕ
+unfoldable pub row_in : List ℕ → Option ℕ
 unfolding row_of
-row_in [] = no_row
+row_in [] = None
 row_in (units ∷ []) = row_of 0x30 units
 row_in (tens ∷ units ∷ []) = row_of tens units
-row_in (tens ∷ units ∷ third ∷ more) = no_row
+row_in (tens ∷ units ∷ third ∷ more) = None
 
 -- ---- a part
 
@@ -61,23 +57,27 @@ row_in (tens ∷ units ∷ third ∷ more) = no_row
 abbrev pub hyphen : ℕ
 hyphen = 0x2D
 
-abbrev pub no_span : Span
-no_span = record { first = no_row; last = no_row }
+-- two rows, the first not above the second
+unfoldable pub span_from : Option ℕ → Option ℕ → Option Span
+span_from None last = None
+span_from (Some first) None = None
+span_from (Some first) (Some last) = cond (leb first last) (Some (record { first = first; last = last })) None
 
 -- from a row alone to itself, or from the row before the hyphen to the one behind it
-unfoldable pub span_between : List ℕ → Span
-span_between [] = no_span
-span_between (row ∷ []) = record { first = row; last = row }
-span_between (first ∷ last ∷ []) = record { first = first; last = last }
-span_between (first ∷ last ∷ third ∷ more) = no_span
+unfoldable pub span_between : List (Option ℕ) → Option Span
+unfolding span_from
+span_between [] = None
+span_between (row ∷ []) = span_from row row
+span_between (first ∷ last ∷ []) = span_from first last
+span_between (first ∷ last ∷ third ∷ more) = None
 
-unfoldable pub span_of : List ℕ → Span
+unfoldable pub span_of : List ℕ → Option Span
 unfolding span_between row_in pieces
 span_of part = span_between (map row_in (pieces hyphen part))
 
--- two rows, the first not above the second
-abbrev pub is_span : Span → Bool
-is_span span = leb first_row span.first && leb span.first span.last
+-- whether a part is one
+abbrev pub is_span : Option Span → Bool
+is_span span = is_some span
 
 abbrev pub covers : Span → ℕ → Bool
 covers span row = leb span.first row && leb row span.last
@@ -88,7 +88,7 @@ covers span row = leb span.first row && leb row span.last
 abbrev pub comma : ℕ
 comma = 0x2C
 
-unfoldable pub spans_in : List ℕ → List Span
+unfoldable pub spans_in : List ℕ → List (Option Span)
 unfolding span_of pieces
 spans_in argument = map span_of (pieces comma argument)
 
@@ -98,12 +98,13 @@ unfolding every spans_in
 names_rows argument = every is_span (spans_in argument)
 
 -- whether one of some spans has the row
-unfoldable pub covered : List Span → ℕ → Bool
+unfoldable pub covered : List (Option Span) → ℕ → Bool
 covered [] row = false
-covered (span ∷ spans) row = covers span row || covered spans row
+covered (None ∷ spans) row = covered spans row
+covered (Some span ∷ spans) row = covers span row || covered spans row
 
 -- the same for so many rows, from a row on
-unfoldable pub covered_from : List Span → ℕ → ℕ → List Bool
+unfoldable pub covered_from : List (Option Span) → ℕ → ℕ → List Bool
 unfolding covered
 covered_from spans row zero = []
 covered_from spans row (suc more) = covered spans row ∷ covered_from spans (suc row) more
@@ -114,6 +115,11 @@ unfolding names_rows covered_from spans_in
 wanted_rows argument = cond (names_rows argument) (covered_from (spans_in argument) first_row last_row) (replicate last_row false)
 
 -- whether an answer says that the argument names rows
-unfoldable pub says_rows : ChoiceAnswer → Bool
-says_rows Rows = true
-says_rows NoRows = false
+unfoldable pub says_rows : Option (List Bool) → Bool
+says_rows (Some wanted) = true
+says_rows None = false
+
+-- the rows that an answer says: none is wanted where it has no rows
+unfoldable pub wanted_of : Option (List Bool) → List Bool
+wanted_of (Some wanted) = wanted
+wanted_of None = replicate last_row false

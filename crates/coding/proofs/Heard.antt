@@ -1,48 +1,45 @@
--- From the paper's number and values of a message, or of a character, to what was heard.
+-- From the paper's number and values to what was heard, and a message by its case.
 use mathlib.Core.Path.{◌≡◌, refl, sym, ap, ◌∙◌, subst}
 use mathlib.Core.Option.{Option, none, some}
 use Prim.Native.Nat.{ℕ, ◌<◌}
+use Rattle.std.specs.Prelude as code
 use Rattle.laws.specs.Paper.{one_or_none}
-use Rattle.laws.proofs.Inverse.{holds_value, value_back}
-use Rattle.coding.specs.Characters.{character_paper}
+use Rattle.laws.proofs.Inverse.{holds_value, paper_back, told_apart, value_back}
 use Rattle.coding.specs.Hamming.{message, message_paper}
-use Rattle.coding.specs.Heard.{character_heard, message_heard}
-use Rattle.coding.specs.declared.Character.{Character}
-use Rattle.coding.specs.declared.Character.TheVariants as character
-use Rattle.coding.specs.declared.Message.{Message}
-use Rattle.coding.specs.declared.Message.TheVariants as message
+use Rattle.coding.specs.Heard.{heard}
 use Rattle.coding.proofs.Hamming.{Small, small}
 
-character_back : (c : Character) → character_heard c ≡ value_back (character_paper c)
-unfolding character_heard character_paper
-character_back (character.Good code) = refl
-character_back character.Even = refl
+paper_heard : (o : code.Option ℕ) → heard o ≡ value_back (message_paper o)
+unfolding heard message_paper
+paper_heard (code.Some value) = refl
+paper_heard code.None = refl
 
-pub character_heard_law : (c : Character) (o : Option ℕ) → character_paper c ≡ one_or_none o → character_heard c ≡ o
-character_heard_law = holds_value character_paper character_heard character_back
+pub heard_law : (c : code.Option ℕ) (o : Option ℕ) → message_paper c ≡ one_or_none o → heard c ≡ o
+heard_law = holds_value message_paper heard paper_heard
 
-message_back : (m : Message) → message_heard m ≡ value_back (message_paper m)
-unfolding message_heard message_paper
-message_back (message.Good value) = refl
-message_back message.Refused = refl
+-- one paper is one answer
+heard_back : (o : code.Option ℕ) → paper_back code.Some code.None (message_paper o) ≡ o
+unfolding message_paper
+heard_back (code.Some value) = refl
+heard_back code.None = refl
 
-pub message_heard_law : (m : Message) (o : Option ℕ) → message_paper m ≡ one_or_none o → message_heard m ≡ o
-message_heard_law = holds_value message_paper message_heard message_back
+pub heard_is : (a b : code.Option ℕ) → message_paper a ≡ message_paper b → a ≡ b
+heard_is = told_apart message_paper (paper_back code.Some code.None) heard_back
 
 -- ---- a message, by its case
 
-module _ (m : Message) {o : Option ℕ} (h : message_heard m ≡ o) where
-  pub heard-good : (value : ℕ) → m ≡ message.Good value → o ≡ some value
-  unfolding message_heard
-  heard-good value e = sym h ∙ ap message_heard e
+module _ (m : code.Option ℕ) {o : Option ℕ} (h : heard m ≡ o) where
+  pub heard-good : (value : ℕ) → m ≡ code.Some value → o ≡ some value
+  unfolding heard
+  heard-good value e = sym h ∙ ap heard e
 
-  pub heard-refused : m ≡ message.Refused → o ≡ none
-  unfolding message_heard
-  heard-refused e = sym h ∙ ap message_heard e
+  pub heard-refused : m ≡ code.None → o ≡ none
+  unfolding heard
+  heard-refused e = sym h ∙ ap heard e
 
-pub small_good : (m : Message) (value : ℕ) → Small (message_heard m) → m ≡ message.Good value → value < 16
-unfolding message_heard
-small_good m value s e = subst (λ (x : Message). Small (message_heard x)) e s
+pub small_good : (m : code.Option ℕ) (value : ℕ) → Small (heard m) → m ≡ code.Some value → value < 16
+unfolding heard
+small_good m value s e = subst (λ (x : code.Option ℕ). Small (heard x)) e s
 
-pub small_heard : (m : Message) (byte : ℕ) → message_heard m ≡ message byte → Small (message_heard m)
+pub small_heard : (m : code.Option ℕ) (byte : ℕ) → heard m ≡ message byte → Small (heard m)
 small_heard m byte e = subst Small (sym e) (small byte)

@@ -5,15 +5,11 @@ use mathlib.Core.Option.{Option, none, some}
 use Prim.Native.Nat.{ℕ}
 use Rattle.laws.specs.Paper.{Paper}
 use Rattle.laws.specs.Unique.{Unique}
-use Rattle.laws.proofs.Inverse.{told_apart, paper_back}
-use Rattle.coding.specs.Characters.{character_paper}
-use Rattle.coding.specs.Hamming.{decoded_paper, message_paper}
-use Rattle.coding.specs.declared.Character.{Character}
-use Rattle.coding.specs.declared.Character.TheVariants as character
+use Rattle.laws.proofs.Inverse.{told_apart}
+use Rattle.coding.specs.Hamming.{decoded_paper}
 use Rattle.coding.specs.declared.Decoded.{Decoded}
 use Rattle.coding.specs.declared.Decoded.TheVariants as decoded
-use Rattle.coding.specs.declared.Message.{Message}
-use Rattle.coding.specs.declared.Message.TheVariants as message
+use Rattle.coding.proofs.Heard.{heard_is}
 use Rattle.coding.specs.contracts.character_of as character-of
 use Rattle.coding.proofs.character_of.Reads as character-of-reads
 use Rattle.coding.specs.contracts.framing_passes as framing-passes
@@ -40,16 +36,8 @@ framing_passes_unique κs a r r' ws ws' p q = (p ∙ sym q, refl)
 pub tests_of_unique : Unique tests-of.ended tests-of-reads.Post
 tests_of_unique κs a r r' ws ws' p q = (p ∙ sym q, refl)
 
-message_back : (m : Message) → paper_back message.Good message.Refused (message_paper m) ≡ m
-unfolding message_paper
-message_back (message.Good value) = refl
-message_back message.Refused = refl
-
-pub message_is : (m n : Message) → message_paper m ≡ message_paper n → m ≡ n
-message_is = told_apart message_paper (paper_back message.Good message.Refused) message_back
-
 pub message_in_unique : Unique message-in.ended message-in-reads.Post
-message_in_unique κs a r r' ws ws' p q = (message_is r r' (p ∙ sym q), refl)
+message_in_unique κs a r r' ws ws' p q = (heard_is r r' (p ∙ sym q), refl)
 
 -- one value is an exact byte's, two are a corrected one's
 abbrev to_decoded : Option ℕ → List ℕ → Decoded
@@ -70,13 +58,8 @@ decoded_is = told_apart decoded_paper (λ (p : Paper). to_decoded p.number p.val
 pub message_of_unique : Unique message-of.ended message-of-reads.Post
 message_of_unique κs a r r' ws ws' p q = (decoded_is r r' (p ∙ sym q), refl)
 
-character_back : (c : Character) → paper_back character.Good character.Even (character_paper c) ≡ c
-unfolding character_paper
-character_back (character.Good code) = refl
-character_back character.Even = refl
-
 pub character_of_unique : Unique character-of.ended character-of-reads.Post
-character_of_unique κs a r r' ws ws' p q = (told_apart character_paper (paper_back character.Good character.Even) character_back r r' (p ∙ sym q), refl)
+character_of_unique κs a r r' ws ws' p q = (heard_is r r' (p ∙ sym q), refl)
 
 pub sent_message_unique : Unique sent-message.ended sent-message-reads.Post
 sent_message_unique κs a r r' ws ws' p q = (p ∙ sym q, refl)

@@ -1,4 +1,5 @@
 -- Document 01, "Hamming bytes". From b1 up a byte holds P1 M1 P2 M2 P3 M3 P4 M4.
+use Rattle.std.specs.Prelude as code
 use Rattle.std.specs.Prelude.{Bool, true, false, not, cond, ◌&&◌, List, [], ◌∷◌, ℕ, ◌+◌, ◌*◌, get_or}
 use Rattle.std.proofs.Math.Option.{Option, none, some}
 use Rattle.std.specs.Int.Bits.{bit_and, bit_xor}
@@ -8,8 +9,6 @@ use Rattle.laws.specs.Digits.{weight, bit}
 use Rattle.coding.specs.Bits.{odd}
 use Rattle.coding.specs.declared.Decoded.{Decoded}
 use Rattle.coding.specs.declared.Decoded.TheVariants.{Exact, Corrected, Refused}
-use Rattle.coding.specs.declared.Message.{Message}
-use Rattle.coding.specs.declared.Message.TheVariants as messages
 use Rattle.coding.specs.declared.Tests.{Tests}
 
 -- messages 0 to 15 are sent as
@@ -111,7 +110,7 @@ decoded_paper (Corrected value position) = accepted (value ∷ position ∷ [])
 decoded_paper Refused = unnumbered
 
 -- the same of a message alone, where it is not asked whether its byte was corrected
-unfoldable pub message_paper : Message → Paper
+unfoldable pub message_paper : code.Option ℕ → Paper
 unfolding accepted unnumbered
-message_paper (messages.Good value) = accepted (value ∷ [])
-message_paper messages.Refused = unnumbered
+message_paper (code.Some value) = accepted (value ∷ [])
+message_paper code.None = unnumbered

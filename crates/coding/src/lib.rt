@@ -3,32 +3,20 @@
 #![tactic(auto)]
 
 ghost use Rattle.std.specs.Prelude.{◌≡◌, ◌%◌};
+ghost use Rattle.std.specs.Int.Count.{ones};
 ghost use Rattle.laws.specs.Digits.{weight};
 ghost use Rattle.laws.specs.Paper.{one_or_none};
-ghost use Rattle.coding.specs.Bits.{turned_byte, framing_passes};
+ghost use Rattle.coding.specs.Bits.{framing_passes, odd, turned_byte};
 ghost use Rattle.coding.specs.Characters.{character, character_paper, sent_character};
 ghost use Rattle.coding.specs.Hamming.{decoded, decoded_paper, message_bits, message_in, message_paper, sent_message, tests_of, wrong_bit};
 
 // What a Hamming byte is: exact, with a message of 0 to 15; corrected, with its message and the position of its wrong bit, 1 to 8; or refused, since more bits are wrong.
+// The paper tells these three apart, and so it is no Option: whoever wants the message alone has `message_in`.
 #[derive(Drop)]
 pub enum Decoded {
     Exact(u8),
     Corrected { message: u8, position: u8 },
     Refused,
-}
-
-// The message of a Hamming byte for whoever does not ask whether it was corrected.
-#[derive(Drop)]
-pub enum Message {
-    Good(u8),
-    Refused,
-}
-
-// What a character byte holds: a code of 00 to 7F, or a wrong parity.
-#[derive(Clone, Copy)]
-pub enum Character {
-    Good(u8),
-    Even,
 }
 
 // The four parity tests of a Hamming byte, each true where it holds.
@@ -54,6 +42,7 @@ const C_BITS: u8 = 0x3A;
 const B7: u8 = 0x40;
 
 // The byte end for end. Halves, pairs and bits change places, which a compiler does to many bytes at once; a table would be read a byte at a time.
+// The library's `reverse_bits` was tried: it moves a bit at a time, and its definition cannot be unfolded here, so the proof did not close.
 pub fn turned(byte: u8) -> u8
     ensures { result ≡ turned_byte byte }
 {
@@ -63,21 +52,32 @@ pub fn turned(byte: u8) -> u8
 }
 
 // Whether a framing code as it stands has at most one wrong bit.
+#[tactic(auto, unfolding(crate::specs::Bits::framing_passes, crate::specs::Bits::distance))]
 pub fn framing_passes(byte: u8) -> bool
     ensures { result ≡ framing_passes byte }
 {
-    u8::count_ones(byte ^ FRAMING_CODE) <= 1
+    (byte ^ FRAMING_CODE).count_ones() <= 1
+}
+
+// Whether the count of ones is odd.
+#[inline]
+#[tactic(auto, unfolding(crate::specs::Bits::odd))]
+fn is_odd(bits: u8) -> bool
+    ensures { result ≡ odd (ones bits) }
+{
+    bits.count_ones() % 2 == 1
 }
 
 // The parity tests, each over the bits of its mask.
+#[tactic(auto, unfolding(crate::specs::Hamming::tests_of, crate::specs::Hamming::holds, crate::specs::Hamming::over, laws::specs::Digits::weight))]
 pub fn tests_of(byte: u8) -> Tests
     ensures { result ≡ tests_of byte }
 {
     Tests {
-        a: u8::count_ones(byte & A_BITS) % 2 == 1,
-        b: u8::count_ones(byte & B_BITS) % 2 == 1,
-        c: u8::count_ones(byte & C_BITS) % 2 == 1,
-        d: u8::count_ones(byte & 0xFF) % 2 == 1,
+        a: is_odd(byte & A_BITS),
+        b: is_odd(byte & B_BITS),
+        c: is_odd(byte & C_BITS),
+        d: is_odd(byte & 0xFF),
     }
 }
 
@@ -112,33 +112,28 @@ pub fn message_of(byte: u8) -> Decoded
         return Decoded::Exact(message_bits(byte));
     }
     let message = message_bits(byte ^ wrong);
-    let position = u8::trailing_zeros(wrong) as u8 + 1;
+    let position = wrong.trailing_zeros() as u8 + 1;
     Decoded::Corrected { message, position }
 }
 
-// The message alone, exact or corrected.
-pub fn message_in(decoded: Decoded) -> Message
+// The message alone, exact or corrected, for whoever does not ask which.
+#[tactic(auto, unfolding(crate::specs::Hamming::message_in, crate::specs::Hamming::message_paper, laws::specs::Paper::one_or_none))]
+pub fn message_in(decoded: Decoded) -> Option<u8>
     ensures { message_paper result ≡ one_or_none (message_in decoded) }
 {
     match decoded {
-        Decoded::Exact(message) => Message::Good(message),
-        Decoded::Corrected {
-            message,
-            position: _,
-        } => Message::Good(message),
-        Decoded::Refused => Message::Refused,
+        Decoded::Exact(message) => Some(message),
+        Decoded::Corrected { message, .. } => Some(message),
+        Decoded::Refused => None,
     }
 }
 
-// The character of a byte of odd parity.
-pub fn character_of(byte: u8) -> Character
+// The character of a byte of odd parity, a code of 00 to 7F.
+#[tactic(auto, unfolding(crate::specs::Characters::character, crate::specs::Hamming::message_paper, laws::specs::Paper::one_or_none))]
+pub fn character_of(byte: u8) -> Option<u8>
     ensures { character_paper result ≡ one_or_none (character byte) }
 {
-    if u8::count_ones(byte) % 2 == 1 {
-        Character::Good(byte % 128)
-    } else {
-        Character::Even
-    }
+    if is_odd(byte) { Some(byte % 128) } else { None }
 }
 
 // The Hamming byte of the message in a number's low four bits. Each bit that is set changes the byte of message 0 in the same places, whatever the others
@@ -154,11 +149,12 @@ pub fn sent_message(message: u8) -> u8
 }
 
 // The byte of odd parity of the character in a number's low seven bits.
+#[tactic(auto, unfolding(crate::specs::Characters::sent_character, laws::specs::Digits::weight))]
 pub fn sent_character(code: u8) -> u8
     ensures { result ≡ sent_character (code % 128) }
 {
     let character = code % 128;
-    if u8::count_ones(character) % 2 == 1 {
+    if is_odd(character) {
         character
     } else {
         character + 128

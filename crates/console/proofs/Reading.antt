@@ -6,18 +6,17 @@ use native.Mathlib.Omega.{arith}
 use lib.ListN.{length}
 use lib.Seq.{length-take-le}
 use Rattle.console.specs.Read.{IsPrefixLen, Read, Within}
-use Rattle.console.specs.declared.Got.{Got}
-use Rattle.console.specs.declared.Got.TheVariants.{Bytes, End, Failed}
+use Rattle.console.specs.declared.Stop.{Stop}
+use Rattle.std.specs.Prelude.{Result, Ok, Err}
 
-pub behind : (got : Got) (place : ℕ) (buffer part : List ℕ) → Read got part → length part ≡ length buffer - place → Within got place buffer
-behind (Bytes count) place buffer part r size = λ h. (r.0, (let most = r.1 in omega arith))
-behind End place buffer part r size = tt
-behind Failed place buffer part r size = tt
+pub behind : (got : Result ℕ Stop) (place : ℕ) (buffer part : List ℕ) → Read got part → length part ≡ length buffer - place → Within got place buffer
+behind (Ok count) place buffer part r size = λ h. (r.0, (let most = r.1 in omega arith))
+behind (Err stop) place buffer part r size = tt
 
 -- so many bytes, in the case that was found
-pub some_read : {got : Got} (place : ℕ) (buffer : List ℕ) {count : ℕ} → got ≡ Bytes count → Within got place buffer → place < length buffer
+pub some_read : {got : Result ℕ Stop} (place : ℕ) (buffer : List ℕ) {count : ℕ} → got ≡ Ok count → Within got place buffer → place < length buffer
     → (0 < count) × (place + count ≤ length buffer)
-some_read place buffer e w h = subst (λ (g : Got). Within g place buffer) e w h
+some_read place buffer e w h = subst (λ (g : Result ℕ Stop). Within g place buffer) e w h
 
 -- a count within the buffer
 pub counts : (count : ℕ) (buffer : List ℕ) → count ≤ length buffer → IsPrefixLen count buffer

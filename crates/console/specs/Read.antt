@@ -1,22 +1,19 @@
 -- What a read tells of the buffer. Which bytes were read no contract can say.
-use Rattle.std.specs.Prelude.{List, ◌≡◌, ℕ, ◌+◌, ◌≤◌, ◌<◌, length, take}
-use Rattle.console.specs.declared.Got.{Got}
-use Rattle.console.specs.declared.Got.TheVariants.{Bytes, End, Failed}
+use Rattle.std.specs.Prelude.{List, ◌≡◌, ℕ, ◌+◌, ◌≤◌, ◌<◌, length, take, Result, Ok, Err}
+use Rattle.console.specs.declared.Stop.{Stop}
 
 -- so many bytes, one or more, at the buffer's start
-abbrev pub Read : Got → List ℕ → Type 0
-Read (Bytes count) buffer = (0 < count) × (count ≤ length buffer)
-Read End buffer = Unit {0}
-Read Failed buffer = Unit {0}
+abbrev pub Read : Result ℕ Stop → List ℕ → Type 0
+Read (Ok count) buffer = (0 < count) × (count ≤ length buffer)
+Read (Err stop) buffer = Unit {0}
 
 -- so many bytes from a place on, none only where there was no room for them
-abbrev pub Within : Got → ℕ → List ℕ → Type 0
-Within (Bytes count) place buffer = place < length buffer → (0 < count) × (place + count ≤ length buffer)
-Within End place buffer = Unit {0}
-Within Failed place buffer = Unit {0}
+abbrev pub Within : Result ℕ Stop → ℕ → List ℕ → Type 0
+Within (Ok count) place buffer = place < length buffer → (0 < count) × (place + count ≤ length buffer)
+Within (Err stop) place buffer = Unit {0}
 
 -- and what lies before the place is as it was
-pub record ReadBehind (got : Got) (place : ℕ) (before after : List ℕ) : Type 0 where
+pub record ReadBehind (got : Result ℕ Stop) (place : ℕ) (before after : List ℕ) : Type 0 where
   pub within : Within got place before
   pub kept : take place after ≡ take place before
 

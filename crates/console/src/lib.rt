@@ -14,15 +14,17 @@ const TRIES: usize = 64;
 // Room for an error's text: the system's reason, and its number behind it.
 const ROOM: usize = 256;
 
-// What a read gave.
-#[derive(Drop)]
-pub enum Got {
-    // So many bytes: none only where the buffer had no room for them.
-    Bytes(usize),
+// Why a read gave no bytes.
+#[derive(Clone, Copy, PartialEq, Eq)]
+pub enum Stop {
     End,
     // Standard error says why.
     Failed,
 }
+
+// A write failed: standard error says why.
+#[derive(Clone, Copy, PartialEq, Eq)]
+pub struct Failed;
 
 // The system's reason alone, where std writes a number behind it, as in "Is a directory (os error 21)".
 #[derive(Drop)]
@@ -47,32 +49,37 @@ fn fail(rt: &impl Eprint, what: &str, error: Error) {
     let _ = rt.eprintln(format_args!("{what}: {reason}"));
 }
 
-fn read_some(rt: &(impl Input + Eprint), buffer: &mut [u8]) -> Got
+fn read_some(rt: &(impl Input + Eprint), buffer: &mut [u8]) -> Result<usize, Stop>
     ensures { Read result buffer.new }
 {
     let mut reader = rt.reader();
     for _ in 0..TRIES {
         match std::io::Read::read(&mut reader, buffer) {
-            Ok(0) => return Got::End,
-            Ok(count) => return Got::Bytes(count),
+            Ok(0) => return Err(Stop::End),
+            Ok(count) => return Ok(count),
             Err(error) => {
                 if error.kind() != ErrorKind::Interrupted {
                     fail(rt, "standard input", error);
-                    return Got::Failed;
+                    return Err(Stop::Failed);
                 }
             }
         }
     }
     fail(rt, "standard input", Error::from(ErrorKind::Interrupted));
-    Got::Failed
+    Err(Stop::Failed)
 }
 
-// Reads some bytes into the buffer from a place on, as many as are there: it waits for the first alone. What lies before the place is as it was.
-pub fn read_behind(rt: &(impl Input + Eprint), buffer: &mut [u8], place: usize) -> Got
+// Reads some bytes into the buffer from a place on, as many as are there: it waits for the first alone. It gives none only where the buffer
+// had no room for them. What lies before the place is as it was.
+pub fn read_behind(
+    rt: &(impl Input + Eprint),
+    buffer: &mut [u8],
+    place: usize,
+) -> Result<usize, Stop>
     ensures { ReadBehind result place buffer.old buffer.new }
 {
     if place >= buffer.len() {
-        return Got::Bytes(0);
+        return Ok(0);
     }
     read_some(rt, &mut buffer[place..])
 }
@@ -83,24 +90,21 @@ pub fn read_all(rt: &(impl Input + Eprint), buffer: &mut [u8]) -> usize
 {
     let mut count = 0;
     while count < buffer.len() {
-        match read_behind(rt, buffer, count) {
-            Got::Bytes(more) => count += more,
-            Got::End => return count,
-            Got::Failed => return count,
-        }
+        let Ok(more) = read_behind(rt, buffer, count) else {
+            return count;
+        };
+        count += more;
     }
     count
 }
 
-// Writes a text to standard output, and answers whether that went well; where it did not, standard error says why.
-pub fn say(rt: &(impl Print + Eprint), text: &[u8]) -> bool {
-    match rt.write_all(text) {
-        Ok(()) => true,
-        Err(error) => {
-            fail(rt, "standard output", error);
-            false
-        }
+// Writes a text to standard output; where that fails, standard error says why.
+pub fn say(rt: &(impl Print + Eprint), text: &[u8]) -> Result<(), Failed> {
+    if let Err(error) = rt.write_all(text) {
+        fail(rt, "standard output", error);
+        return Err(Failed);
     }
+    Ok(())
 }
 
 // Writes to standard error.

@@ -10,31 +10,18 @@ use grid::CELLS;
 use packet::LINE_LENGTH;
 use page::RECORD_LENGTH;
 use printing::{PAGE, UTF8_PAGE};
-use receiver::{Answer, Closing, Mended, Receiver, Selection, When};
+use receiver::{Mended, OutOfRange, Receiver, Refusal, Selection, Stepped, Taken, When};
 
 // Lines are taken two in turn.
 const PAIR: usize = 2 * LINE_LENGTH;
 
-fn closing_number(closing: Closing) -> u8 {
-    match closing {
-        Closing::None => 0,
-        Closing::Clean => 64,
-        Closing::Doubt => 128,
-    }
-}
-
-fn number_of(answer: Answer) -> u8 {
+fn number_of(answer: Result<Taken, Refusal>) -> u8 {
     match answer {
-        Answer::Taken {
-            kind,
-            count,
-            closing,
-            mended,
-        } => kind ^ count ^ closing_number(closing) ^ mended,
-        Answer::Unlawful => 18,
-        Answer::ShortRecord => 12,
-        Answer::WrongLength => 10,
-        Answer::WrongFraming => 11,
+        Ok(taken) => {
+            let closing = taken.closing.map_or(0, |closing| closing as u8 * 64);
+            taken.kind ^ taken.count ^ closing ^ taken.mended
+        }
+        Err(refusal) => refusal.number(),
     }
 }
 
@@ -43,55 +30,31 @@ fn mended_number(mended: Mended) -> u8 {
 }
 
 // A character of what a turn gave, another one at each turn.
-fn character_at(receiver: Receiver, turn: usize) -> u8 {
-    let characters = receiver.cells.characters;
-    characters[turn % CELLS]
+fn character_at(receiver: &Receiver, turn: usize) -> u8 {
+    receiver.cells.characters[turn % CELLS]
 }
 
-// Lines taken by the entry that has the receiver by value. The receiver of a turn goes on to the next, or every turn starts from the same.
-fn by_value(receiver: Receiver, lines: &[u8], carried: bool, count: usize, record: &mut [u8]) -> u8
-    requires { length lines.now ≡ 2 * line_length }
-{
-    let mut current = receiver;
-    let mut sum: u8 = 0;
-    let mut turn = 0;
-    while turn < count {
-        let from = turn % 2 * LINE_LENGTH;
-        let stepped = receiver::take_line(current, &lines[from..from + LINE_LENGTH], record);
-        let answer = stepped.answer;
-        let next = stepped.receiver;
-        sum = sum ^ number_of(answer) ^ character_at(next, turn);
-        if carried {
-            current = next;
-        }
-        turn += 1;
-    }
-    sum
-}
-
-// Lines taken by the entry that is lent the receiver.
-fn by_lending(
+// Lines taken by an entry. The receiver of a turn goes on to the next, or every turn starts from the same.
+fn by_entry<F: Fn(Receiver, &[u8], &mut [u8]) -> Stepped>(
+    entry: F,
     receiver: Receiver,
     lines: &[u8],
     carried: bool,
     count: usize,
     record: &mut [u8],
 ) -> u8
-    requires { length lines.now ≡ 2 * line_length }
+    requires callable { F.IsAlwaysCallable entry }
+    requires pair { length lines.now ≡ 2 * line_length }
 {
     let mut current = receiver;
     let mut sum: u8 = 0;
-    let mut turn = 0;
-    while turn < count {
+    for turn in 0..count {
         let from = turn % 2 * LINE_LENGTH;
-        let stepped = lent::take_line_through(current, &lines[from..from + LINE_LENGTH], record);
-        let answer = stepped.answer;
-        let next = stepped.receiver;
-        sum = sum ^ number_of(answer) ^ character_at(next, turn);
+        let stepped = entry(current, &lines[from..from + LINE_LENGTH], record);
+        sum ^= number_of(stepped.answer) ^ character_at(&stepped.receiver, turn);
         if carried {
-            current = next;
+            current = stepped.receiver;
         }
-        turn += 1;
     }
     sum
 }
@@ -106,33 +69,27 @@ fn by_recording(
 ) -> u8 {
     let mut current = receiver;
     let mut sum: u8 = 0;
-    let mut turn = 0;
-    while turn < count {
+    for turn in 0..count {
         let recorded = receiver::take_recording(current, lines, record);
-        let characters = recorded.receiver.cells.characters;
-        let mended = recorded.mended;
-        sum = sum ^ (recorded.used % 256) as u8 ^ mended_number(mended) ^ characters[turn % CELLS];
+        sum ^= (recorded.used % 256) as u8
+            ^ mended_number(recorded.mended)
+            ^ character_at(&recorded.receiver, turn);
         if carried {
             current = recorded.receiver;
         }
-        turn += 1;
     }
     sum
 }
 
 // A receiver of page 100 that has taken a line; an empty one leaves it with no page open.
-fn first_receiver(line: &[u8], record: &mut [u8]) -> Receiver {
-    let when = When::Any;
-    let selection = Selection {
+fn first_receiver(line: &[u8], record: &mut [u8]) -> Result<Receiver, OutOfRange> {
+    let receiver = Receiver::new(Selection {
         magazine: 1,
         tens: 0,
         units: 0,
-        when,
-    };
-    let new = Receiver::new(selection);
-    let receiver = new.receiver;
-    let stepped = receiver::take_line(receiver, line, record);
-    stepped.receiver
+        when: When::Any,
+    })?;
+    Ok(receiver::take_line(receiver, line, record).receiver)
 }
 
 fn taken(work: u8, receiver: Receiver, lines: &[u8], carried: bool, count: usize) -> u8 {
@@ -144,41 +101,41 @@ fn taken(work: u8, receiver: Receiver, lines: &[u8], carried: bool, count: usize
         return 0;
     }
     if work == b'm' {
-        return by_lending(receiver, lines, carried, count, &mut record);
+        let entry = lent::take_line_through;
+        return by_entry(entry, receiver, lines, carried, count, &mut record);
     }
-    by_value(receiver, lines, carried, count, &mut record)
+    let entry = receiver::take_line;
+    by_entry(entry, receiver, lines, carried, count, &mut record)
 }
 
 // Works l, m and r on lines: whether the receiver is carried, the length of a line that is taken first, that line, and the lines.
 fn lines_taken(work: u8, input: &[u8], count: usize) -> u8 {
     let size = cases::byte_at(input, 1) as usize;
     let mut record = [0u8; RECORD_LENGTH];
-    let receiver = first_receiver(cases::start(cases::rest(input, 2), size), &mut record);
     let carried = cases::byte_at(input, 0) == 1;
-    taken(work, receiver, cases::rest(input, 2 + size), carried, count)
+    match first_receiver(cases::start(cases::rest(input, 2), size), &mut record) {
+        Ok(receiver) => taken(work, receiver, cases::rest(input, 2 + size), carried, count),
+        Err(OutOfRange) => 0,
+    }
 }
 
-// Work a: a page is printed.
+// Work a: a page is printed. One that is refused gives zeros.
 fn pages_printed(codes: &[u8], count: usize) -> u8 {
     let mut sum: u8 = 0;
-    let mut turn = 0;
-    while turn < count {
-        let page = printing::printed_page(codes);
-        let text = page.text;
-        sum = sum ^ text[turn % PAGE];
-        turn += 1;
+    for turn in 0..count {
+        if let Ok(text) = printing::printed_page(codes) {
+            sum ^= text[turn % PAGE];
+        }
     }
     sum
 }
 
 fn pages_spelled(codes: &[u8], control: u16, count: usize) -> u8 {
     let mut sum: u8 = 0;
-    let mut turn = 0;
-    while turn < count {
-        let page = printing::utf8_page(codes, control);
-        let text = page.text;
-        sum = sum ^ text[turn % UTF8_PAGE] ^ (page.used % 256) as u8;
-        turn += 1;
+    for turn in 0..count {
+        if let Ok(page) = printing::utf8_page(codes, control) {
+            sum ^= page.text.bytes[turn % UTF8_PAGE] ^ (page.text.used % 256) as u8;
+        }
     }
     sum
 }
@@ -198,9 +155,6 @@ fn done(work: u8, input: &[u8], count: usize) -> u8 {
 
 fn main(rt: HostRuntime) {
     let mut room = [0u8; cases::LONGEST];
-    let work = cases::next_sort(&rt);
-    let number = cases::next_part(&rt, &mut room);
-    let count = cases::double(number) as usize;
-    let input = cases::next_part(&rt, &mut room);
+    let (work, count, input) = cases::next_work(&rt, &mut room);
     cases::put_byte(&rt, done(work, input, count));
 }

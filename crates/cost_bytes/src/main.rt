@@ -3,18 +3,16 @@
 // into a byte that is written at the end.
 #![tactic(auto)]
 
-use coding::{Decoded, Message};
+use coding::Decoded;
 
 // Work h: the message of each byte.
 fn messages_read(bytes: &[u8]) -> u8 {
     let mut sum: u8 = 0;
-    let mut at = 0;
-    while at < bytes.len() {
-        let Message::Good(message) = coding::message_in(coding::message_of(bytes[at])) else {
+    for byte in bytes {
+        let Some(message) = coding::message_in(coding::message_of(*byte)) else {
             return sum;
         };
-        sum = sum ^ message;
-        at += 1;
+        sum ^= message;
     }
     sum
 }
@@ -31,14 +29,12 @@ fn told(decoded: Decoded) -> u8 {
 // Work w: the message of each byte, and where its wrong bit is.
 fn wrong_bits_told(bytes: &[u8]) -> u8 {
     let mut sum: u8 = 0;
-    let mut at = 0;
-    while at < bytes.len() {
-        let one = told(coding::message_of(bytes[at]));
+    for byte in bytes {
+        let one = told(coding::message_of(*byte));
         if one == 0 {
             return sum;
         }
-        sum = sum ^ one;
-        at += 1;
+        sum ^= one;
     }
     sum
 }
@@ -46,13 +42,11 @@ fn wrong_bits_told(bytes: &[u8]) -> u8 {
 // Work p: the message of each byte as it stands in a packet, where it is turned first.
 fn packet_bytes_read(bytes: &[u8]) -> u8 {
     let mut sum: u8 = 0;
-    let mut at = 0;
-    while at < bytes.len() {
-        let Message::Good(message) = packet::message_at(bytes[at]) else {
+    for byte in bytes {
+        let Some(message) = packet::message_at(*byte) else {
             return sum;
         };
-        sum = sum ^ message;
-        at += 1;
+        sum ^= message;
     }
     sum
 }

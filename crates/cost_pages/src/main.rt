@@ -2,29 +2,23 @@
 #![tactic(auto)]
 
 use display::{Cell, Height, Symbol};
-use field::Found;
 use grid::CELLS;
-use page::{Page, RECORD_LENGTH};
-use sending::{CHOICES, LONGEST, Sent};
+use page::{Page, RECORD_LENGTH, ZERO_PAGE};
+use sending::{CHOICES, LONGEST};
+
+// More searches than a field has units.
+const SEARCHES: u8 = 100;
 
 // The units of a field, one search after another until there is no more.
 fn searched(field: &[u8]) -> u8 {
     let mut sum: u8 = 0;
     let mut place = 0;
-    let mut turns: u8 = 100;
-    while turns > 0 {
-        let Found::Packet {
-            packet,
-            parity,
-            offset,
-            after,
-        } = field::search(field, place)
-        else {
+    for _ in 0..SEARCHES {
+        let Ok(Some(found)) = field::search(field, place) else {
             return sum;
         };
-        sum = sum ^ parity ^ offset ^ (packet % 256) as u8;
-        place = after;
-        turns -= 1;
+        sum ^= found.parity ^ found.offset ^ (found.packet % 256) as u8;
+        place = found.after;
     }
     sum
 }
@@ -32,10 +26,8 @@ fn searched(field: &[u8]) -> u8 {
 // Work f.
 fn fields_searched(field: &[u8], count: usize) -> u8 {
     let mut sum: u8 = 0;
-    let mut turn = 0;
-    while turn < count {
-        sum = sum ^ searched(field) ^ (turn % 256) as u8;
-        turn += 1;
+    for turn in 0..count {
+        sum ^= searched(field) ^ (turn % 256) as u8;
     }
     sum
 }
@@ -43,56 +35,39 @@ fn fields_searched(field: &[u8], count: usize) -> u8 {
 fn pages_written(page: Page, count: usize) -> u8 {
     let mut record = [0u8; RECORD_LENGTH];
     let mut sum: u8 = 0;
-    let mut turn = 0;
-    while turn < count {
-        page::write_record(page, &mut record);
-        sum = sum ^ record[turn % RECORD_LENGTH];
-        turn += 1;
+    for turn in 0..count {
+        let _ = page::write_record(page, &mut record);
+        sum ^= record[turn % RECORD_LENGTH];
     }
     sum
 }
 
 // Work w: the page of a record is written.
 fn page_written(record: &[u8], count: usize) -> u8 {
-    let read = page::read_record(record);
-    let page = read.page;
-    pages_written(page, count)
+    pages_written(page::read_record(record).unwrap_or(ZERO_PAGE), count)
 }
 
 // Work d: a record is read.
 fn pages_read(record: &[u8], count: usize) -> u8 {
     let mut sum: u8 = 0;
-    let mut turn = 0;
-    while turn < count {
-        let read = page::read_record(record);
-        let page = read.page;
-        let cells = page.cells;
-        let at = turn % CELLS;
-        sum = sum ^ cells.characters[at] ^ cells.marks[at];
-        turn += 1;
+    for turn in 0..count {
+        if let Ok(page) = page::read_record(record) {
+            let at = turn % CELLS;
+            sum ^= page.cells.characters[at] ^ page.cells.marks[at];
+        }
     }
     sum
-}
-
-fn lines_of(sent: Sent) -> u8 {
-    match sent {
-        Sent::Lines(count) => (count % 256) as u8,
-        Sent::WrongLength => 20,
-        Sent::WrongRowCode => 21,
-        Sent::BadDigit => 22,
-        Sent::UnlawfulCells => 23,
-        Sent::ShortRoom => 30,
-    }
 }
 
 fn pages_sent(record: &[u8], wanted: [bool; CHOICES], count: usize) -> u8 {
     let mut room = [0u8; LONGEST];
     let mut sum: u8 = 0;
-    let mut turn = 0;
-    while turn < count {
-        let sent = sending::send_page(record, wanted, &mut room);
-        sum = sum ^ lines_of(sent) ^ room[turn % LONGEST];
-        turn += 1;
+    for turn in 0..count {
+        let lines = match sending::send_page(record, wanted, &mut room) {
+            Ok(lines) => (lines % 256) as u8,
+            Err(refusal) => refusal.number(),
+        };
+        sum ^= lines ^ room[turn % LONGEST];
     }
     sum
 }
@@ -112,31 +87,26 @@ fn height_number(height: Height) -> u8 {
 }
 
 fn cell_sum(cell: Cell) -> u8 {
-    let symbol = cell.symbol;
-    let shown = match symbol {
+    let shown = match cell.symbol {
         Symbol::Letter(code) => code,
         Symbol::Mosaic { pattern, separated } => pattern ^ separated as u8,
     };
-    let height = cell.height;
     shown
         ^ cell.foreground
         ^ cell.background
         ^ cell.flash as u8
         ^ cell.conceal as u8
         ^ cell.boxed as u8
-        ^ height_number(height)
+        ^ height_number(cell.height)
 }
 
 // Work g: a page is shown.
 fn pages_shown(codes: &[u8], count: usize) -> u8 {
     let mut sum: u8 = 0;
-    let mut turn = 0;
-    while turn < count {
-        let page = display::page_of(codes);
-        let cells = page.cells;
-        let cell = cells[turn % CELLS];
-        sum = sum ^ cell_sum(cell);
-        turn += 1;
+    for turn in 0..count {
+        if let Ok(cells) = display::page_of(codes) {
+            sum ^= cell_sum(cells[turn % CELLS]);
+        }
     }
     sum
 }
@@ -153,9 +123,6 @@ fn done(work: u8, input: &[u8], count: usize) -> u8 {
 
 fn main(rt: HostRuntime) {
     let mut room = [0u8; cases::LONGEST];
-    let work = cases::next_sort(&rt);
-    let number = cases::next_part(&rt, &mut room);
-    let count = cases::double(number) as usize;
-    let input = cases::next_part(&rt, &mut room);
+    let (work, count, input) = cases::next_work(&rt, &mut room);
     cases::put_byte(&rt, done(work, input, count));
 }

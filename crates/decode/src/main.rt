@@ -38,14 +38,12 @@ fn answer_next(rt: &(impl Input + Print + Eprint), room: &mut [u8]) -> bool {
     true
 }
 
-// All cases. The count of turns is there so that the loop is seen to end.
+// All cases. The turns are counted so that the loop is seen to end.
 fn answer_all(rt: &(impl Input + Print + Eprint), room: &mut [u8]) {
-    let mut turns = u64::MAX;
-    while turns > 0 {
+    for _ in 0..u64::MAX {
         if !answer_next(rt, room) {
             return;
         }
-        turns -= 1;
     }
 }
 

@@ -1,24 +1,18 @@
 // Sort g: what the cells of a page show.
-use display::{Cell, DisplayAnswer, Height, Symbol};
+use display::{Cell, Height, NotAPage, Symbol};
 use grid::CELLS;
 
-fn kind_of(symbol: Symbol) -> u8 {
-    match symbol {
-        Symbol::Letter(_) => b'L',
-        Symbol::Mosaic {
-            pattern: _,
-            separated,
-        } => if separated { b'S' } else { b'C' },
-    }
-}
+// The number of a page that is refused.
+pub(crate) const REFUSED: u8 = 25;
 
-fn value_of(symbol: Symbol) -> u8 {
+// How many bytes a cell has.
+const CELL: usize = 8;
+
+// A symbol's kind and its value.
+fn symbol_bytes(symbol: Symbol) -> [u8; 2] {
     match symbol {
-        Symbol::Letter(code) => code,
-        Symbol::Mosaic {
-            pattern,
-            separated: _,
-        } => pattern,
+        Symbol::Letter(code) => [b'L', code],
+        Symbol::Mosaic { pattern, separated } => [if separated { b'S' } else { b'C' }, pattern],
     }
 }
 
@@ -31,41 +25,47 @@ fn height_number(height: Height) -> u8 {
 }
 
 fn put_cell(rt: &(impl Print + Eprint), cell: Cell) {
-    let symbol = cell.symbol;
-    let height = cell.height;
-    let bytes = [
-        kind_of(symbol),
-        value_of(symbol),
+    let [kind, value] = symbol_bytes(cell.symbol);
+    let bytes: [u8; CELL] = [
+        kind,
+        value,
         cell.foreground,
         cell.background,
         cell.flash as u8,
         cell.conceal as u8,
         cell.boxed as u8,
-        height_number(height),
+        height_number(cell.height),
     ];
     cases::put(rt, &bytes);
 }
 
-fn put_cells(rt: &(impl Print + Eprint), cells: [Cell; CELLS]) {
-    let mut place = 0;
-    while place < CELLS {
-        let cell = cells[place];
-        put_cell(rt, cell);
-        place += 1;
-    }
-}
-
-pub(crate) fn put_answer(rt: &(impl Print + Eprint), answer: DisplayAnswer) {
-    match answer {
-        DisplayAnswer::Shown => cases::put_byte(rt, 0),
-        DisplayAnswer::Refused => cases::put_byte(rt, 25),
-    }
-}
-
+// Zeros stand for the cells of a page that is refused.
 pub(crate) fn answer_page(rt: &(impl Print + Eprint), codes: &[u8]) {
-    let page = display::page_of(codes);
-    let answer = page.answer;
-    put_answer(rt, answer);
-    let cells = page.cells;
-    put_cells(rt, cells);
+    match display::page_of(codes) {
+        Ok(cells) => {
+            cases::put_byte(rt, 0);
+            for cell in cells {
+                put_cell(rt, cell);
+            }
+        }
+        Err(NotAPage) => {
+            cases::put_byte(rt, REFUSED);
+            put_no_cells(rt);
+        }
+    }
+}
+
+fn put_no_cells(rt: &(impl Print + Eprint)) {
+    let zero = Cell {
+        symbol: Symbol::Letter(0x00),
+        foreground: 0,
+        background: 0,
+        flash: false,
+        conceal: false,
+        boxed: false,
+        height: Height::Normal,
+    };
+    for _ in 0..CELLS {
+        put_cell(rt, zero);
+    }
 }

@@ -1,67 +1,58 @@
 // Sorts f and u: the search in a data field, and the unit at a place. A case is a place of eight bytes, and the field.
-use field::{AnyUnit, Found};
+use field::{FieldError, Found, WholeUnit};
+use std::array;
 
 const PLACE: usize = 8;
 
 // The number of the first eight bytes.
 fn place_of(input: &[u8]) -> usize {
-    let mut place: usize = 0;
-    let mut at = 0;
-    while at < PLACE {
-        place = place % 0x100_0000_0000_0000 * 256 + cases::byte_at(input, at) as usize;
-        at += 1;
-    }
-    place
+    usize::from_be_bytes(array::from_fn(|at| cases::byte_at(input, at)))
+}
+
+// The last four bytes of a number.
+fn put_place(rt: &(impl Print + Eprint), place: usize) {
+    let bytes = ((place % 0x1_0000_0000) as u32).to_be_bytes();
+    cases::put(rt, &bytes);
 }
 
 // Three numbers of a byte, and two of four bytes.
-fn put_five(
-    rt: &(impl Print + Eprint),
-    number: u8,
-    first: u8,
-    second: u8,
-    place: usize,
-    after: usize,
-) {
-    let bytes = [
-        number,
-        first,
-        second,
-        (place / 0x100_0000 % 256) as u8,
-        (place / 0x1_0000 % 256) as u8,
-        (place / 256 % 256) as u8,
-        (place % 256) as u8,
-        (after / 0x100_0000 % 256) as u8,
-        (after / 0x1_0000 % 256) as u8,
-        (after / 256 % 256) as u8,
-        (after % 256) as u8,
-    ];
+fn put_five(rt: &(impl Print + Eprint), bytes: [u8; 3], place: usize, after: usize) {
     cases::put(rt, &bytes);
+    put_place(rt, place);
+    put_place(rt, after);
+}
+
+// The paper's number, which of a field is said here alone, and the place beside 15 and 16.
+fn put_refusal(rt: &(impl Print + Eprint), refusal: FieldError) {
+    match refusal {
+        FieldError::NoField => put_five(rt, [14, 0, 0], 0, 0),
+        FieldError::PastField => put_five(rt, [17, 0, 0], 0, 0),
+        FieldError::Short(at) => put_five(rt, [15, 0, 0], at, 0),
+        FieldError::WrongLength(at) => put_five(rt, [16, 0, 0], at, 0),
+    }
 }
 
 pub(crate) fn answer_search(rt: &(impl Print + Eprint), input: &[u8]) {
     match field::search(cases::rest(input, PLACE), place_of(input)) {
-        Found::Packet {
-            packet,
-            parity,
-            offset,
-            after,
-        } => put_five(rt, 0, parity, offset, packet, after),
-        Found::NoMore => put_five(rt, 0, 0, 0, 0, 0),
-        Found::NoField => put_five(rt, 14, 0, 0, 0, 0),
-        Found::PastField => put_five(rt, 17, 0, 0, 0, 0),
-        Found::Short(at) => put_five(rt, 15, 0, 0, at, 0),
-        Found::WrongLength(at) => put_five(rt, 16, 0, 0, at, 0),
+        Ok(
+            Some(
+                Found {
+                    packet,
+                    parity,
+                    offset,
+                    after,
+                },
+            ),
+        ) => put_five(rt, [0, parity, offset], packet, after),
+        Ok(None) => put_five(rt, [0, 0, 0], 0, 0),
+        Err(refusal) => put_refusal(rt, refusal),
     }
 }
 
 pub(crate) fn answer_unit(rt: &(impl Print + Eprint), input: &[u8]) {
     match field::unit_at(cases::rest(input, PLACE), place_of(input)) {
-        AnyUnit::Whole { id, length, after } => put_five(rt, 0, id, length, 0, after),
-        AnyUnit::End => put_five(rt, 0, 0, 0, 0, 0),
-        AnyUnit::NoField => put_five(rt, 14, 0, 0, 0, 0),
-        AnyUnit::PastField => put_five(rt, 17, 0, 0, 0, 0),
-        AnyUnit::Short(at) => put_five(rt, 15, 0, 0, at, 0),
-        AnyUnit::WrongLength(at) => put_five(rt, 16, 0, 0, at, 0),
+        Ok(Some(WholeUnit { id, length, after })) => put_five(rt, [0, id, length], 0, after),
+        Ok(None) => put_five(rt, [0, 0, 0], 0, 0),
+        Err(refusal) => put_refusal(rt, refusal),
     }
 }

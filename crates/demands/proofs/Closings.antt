@@ -9,6 +9,8 @@ use native.Mathlib.Omega.{arith}
 use lib.Dec.{T, not_T, eqb→eq}
 use lib.ListN.{length, get_or, take, drop, replicate, get_or-replicate, length-drop, length-take, length-replicate}
 use lib.Seq.{ext_get_or, get_or-drop, get_or-take, take_at}
+use Rattle.std.specs.Prelude as std
+use Rattle.std.specs.Prelude.{Ok, None, Some}
 use Rattle.laws.specs.Every.{every}
 use Rattle.laws.proofs.Keeps.{every-from}
 use Rattle.laws.proofs.Lists.{get_d_part, length_part}
@@ -20,7 +22,6 @@ use Rattle.page.specs.Reading.{page_read, read_answer}
 use Rattle.page.specs.Records.{record_length, record_of}
 use Rattle.page.specs.declared.Cells.{Cells}
 use Rattle.page.specs.declared.Page.{Page}
-use Rattle.page.specs.declared.ReadAnswer.TheVariants.{Read}
 use Rattle.page.proofs.Trips.{length_record, page-read-back, reads-written}
 use Rattle.receiver.specs.Entries.{Entered, closing_number, entered, lawful}
 use Rattle.receiver.specs.Effects.{Outcome, held}
@@ -126,17 +127,17 @@ one_header run i k j p q = by (dec_lt i k) (dec_lt k i)
 
 -- ---- the clean word
 
-clean_is : (word : Closing) → closing_number word ≡ closing_number closing.Clean → word ≡ closing.Clean
+clean_is : (word : std.Option Closing) → closing_number word ≡ closing_number (Some closing.Clean) → word ≡ Some closing.Clean
 unfolding closing_number
-clean_is closing.None e = absurd (omega arith)
-clean_is closing.Clean e = refl
-clean_is closing.Doubt e = absurd (omega arith)
+clean_is std.None e = absurd (omega arith)
+clean_is (std.Some closing.Clean) e = refl
+clean_is (std.Some closing.Doubt) e = absurd (omega arith)
 
 -- ---- the record
 
 -- of a lawful receiver with a page open reads back
 pub held_reads : (receiver : Receiver) → T (lawful receiver) → Sized receiver.cells → receiver.«open» ≡ true
-    → (read_answer (record_of (held receiver)) ≡ Read) × (page_read (record_of (held receiver)) ≡ held receiver)
+    → (read_answer (record_of (held receiver)) ≡ Ok tt) × (page_read (record_of (held receiver)) ≡ held receiver)
 unfolding held
 held_reads receiver is full going = let answer = page-written receiver is (rw going tt) in
     (reads-written (held receiver) full answer, page-read-back (held receiver) full answer)
@@ -150,7 +151,7 @@ record_first receiver lent after wrote =
 -- ---- a line that closes clean
 
 module _ (run : Run) (ready : Ready run) (j d : ℕ) (mild : d ≤ throughout) (sent : T (sent_by_rules (sent_at run.lines j)))
-    (damaged : T (damage d (sent_at run.lines j) (received_at run.lines j))) (word : closing_of (entry_at run j) ≡ closing_number closing.Clean) where
+    (damaged : T (damage d (sent_at run.lines j) (received_at run.lines j))) (word : closing_of (entry_at run j) ≡ closing_number (Some closing.Clean)) where
   abbrev receiver : Receiver
   receiver = receiver_at run ready j
 
@@ -182,7 +183,7 @@ module _ (run : Run) (ready : Ready run) (j d : ℕ) (mild : d ≤ throughout) (
   record_is =
       record_first receiver lent (entry_at run j).lent (ap (λ (e : Entered). e.lent) entry ∙ (lent_entered outcome mended ∙ closed-clean.wrote))
 
-  reads_held : (read_answer (record_of (held receiver)) ≡ Read) × (page_read (record_of (held receiver)) ≡ held receiver)
+  reads_held : (read_answer (record_of (held receiver)) ≡ Ok tt) × (page_read (record_of (held receiver)) ≡ held receiver)
   reads_held = held_reads receiver stands.is stands.sized closed-clean.was_open
 
   module _ (i : ℕ) (opening : Opening run j receiver i) where

@@ -7,6 +7,7 @@ use Prim.Native.Nat.{ℕ, zero, suc, ◌≤◌, ◌<◌}
 use native.Mathlib.Decide.{dec_le, ℕ_discrete}
 use native.Mathlib.Omega.{arith}
 use lib.Dec.{T}
+use Rattle.std.specs.Prelude.{Some, Ok}
 use Rattle.laws.proofs.Bools.{passed}
 use Rattle.grid.specs.Grid.{last_row}
 use Rattle.packet.specs.Addresses.{address_of}
@@ -23,7 +24,7 @@ use Rattle.receiver.specs.declared.Receiver.{Receiver}
 use Rattle.receiver.specs.declared.Selection.{Selection}
 use Rattle.receiver.proofs.Addressed.{late-goes-by, opens-page, other-goes-by, stores-text, zeroth-closes}
 use Rattle.receiver.proofs.Carried.{Going}
-use Rattle.receiver.proofs.Causes.{OurText}
+use Rattle.receiver.proofs.Causes.{as_whole, OurText}
 use Rattle.receiver.proofs.Changes.{opening-count, opening-doubt, opening-open, storing-doubt, storing-open}
 use Rattle.receiver.proofs.Closings.{closes_clean}
 use Rattle.receiver.proofs.Outcomes.{Opens, Stores}
@@ -47,11 +48,11 @@ module _ (receiver : Receiver) (s r lent : List ℕ) (sent : T (sent_by_rules s)
   ours = sent_magazine s ≡ receiver.selection.magazine
 
   -- the address is the one that was sent
-  address_is : address_of packet ≡ Whole (sent_magazine s) (sent_row s)
+  address_is : address_of packet ≡ Ok (Whole (sent_magazine s) (sent_row s))
   address_is = address-one lightly s r sent damaged (omega arith)
 
-  our-address : (row : ℕ) → ours → sent_row s ≡ row → address_of packet ≡ Whole receiver.selection.magazine row
-  our-address row our e = address_is ∙ (λ i. Whole (our i) (e i))
+  our-address : (row : ℕ) → ours → sent_row s ≡ row → address_of packet ≡ Ok (Whole receiver.selection.magazine row)
+  our-address row our e = address_is ∙ (λ i. as_whole (our i) (e i))
 
   -- ---- a line that is not our row 0 leaves no doubt
 
@@ -85,7 +86,7 @@ module _ (receiver : Receiver) (s r lent : List ℕ) (sent : T (sent_by_rules s)
 
   module _ (our : ours) (zeroth : sent_row s ≡ 0) where
     -- closes what is open without doubt
-    closes : Going receiver → outcome.closing ≡ closing.Clean
+    closes : Going receiver → outcome.closing ≡ Some closing.Clean
     closes going =
         zeroth-closes receiver packet lent (our-address 0 our zeroth) (received-packet lightly s r damaged) ∙ closes_clean receiver going.0 going.1
 
@@ -210,12 +211,12 @@ module _ (run : Run) (ready : Ready run) (i j : ℕ) (matched : T (matches run.s
   keeps-j : Keeps j
   keeps-j = keeps-at j follows.before (omega arith)
 
-  closing-clean : (outcome_at run ready j).closing ≡ closing.Clean
+  closing-clean : (outcome_at run ready j).closing ≡ Some closing.Clean
   closing-clean =
       let (ours, zeroth) = ends_is m (s j) follows.next in
       closes (before j) (s j) (r j) (lent_at run ready j) sent-j damaged-j (ours ∙ sym (same-magazine j)) zeroth keeps-j.0
 
-  word-j : closing_of (entry_at run j) ≡ closing_number closing.Clean
+  word-j : closing_of (entry_at run j) ≡ closing_number (Some closing.Clean)
   word-j = ap closing_of (entry-is run ready lightly j sent-j damaged-j) ∙ (closing_entered (outcome_at run ready j) (mended_at run ready j) ∙ ap closing_number closing-clean)
 
   -- line i is the one that opened the page

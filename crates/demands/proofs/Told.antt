@@ -11,6 +11,7 @@ use borrow.Author.Tests.{eq-eqb}
 use lib.Dec.{T}
 use lib.ListN.{length, get_or, length-map}
 use lib.Seq.{get_or-drop}
+use Rattle.std.specs.Prelude.{Ok, Result, Err}
 use Rattle.coding.specs.Characters.{character}
 use Rattle.coding.specs.Hamming.{message}
 use Rattle.packet.specs.Addresses.{address_of, row_of, row_weight1, shown}
@@ -18,12 +19,11 @@ use Rattle.packet.specs.Headers.{header_of}
 use Rattle.packet.specs.Lines.{packet_byte}
 use Rattle.packet.specs.Sent.{damage, line_packet, sent_by_rules, sent_first, sent_header, sent_magazine, sent_row, sent_second, sent_text}
 use Rattle.grid.specs.Grid.{columns, last_row}
-use Rattle.packet.specs.Texts.{column_bytes, text_of}
+use Rattle.packet.specs.Texts.{Text, column_bytes, text_of}
 use Rattle.packet.specs.declared.Address.{Address}
-use Rattle.packet.specs.declared.Address.TheVariants.{Whole, First, Second, Unread, WrongLength}
+use Rattle.packet.specs.declared.Address.TheVariants.{Whole, First, Second, Unread}
+use Rattle.packet.specs.declared.WrongLength.{WrongLength}
 use Rattle.packet.specs.declared.Header.{Header}
-use Rattle.packet.specs.declared.HeaderRead.TheVariants.{Good}
-use Rattle.packet.specs.declared.Text.{Text}
 use Rattle.packet.proofs.Bytes.{length_bytes}
 use Rattle.packet.proofs.Sent.{AsSent, Carries, address-shown, column-kept, column-two, delivered, delivered-packet, first_two}
 use Rattle.packet.proofs.Sent.{header-carries, header-two, received-packet, second-two, sent-packet, text-carries}
@@ -49,12 +49,12 @@ line_taken d s r sent damaged receiver is lent long =
 -- ---- the address
 
 -- each message is as it was sent, or refused
-abbrev pub Told : List ℕ → Address → Type 0
-Told s (Whole magazine row) = (sent_magazine s ≡ magazine) × (sent_row s ≡ row)
-Told s (First magazine weight1) = sent_magazine s ≡ magazine
-Told s (Second second) = 2 * second ≤ sent_row s
-Told s Unread = Unit {0}
-Told s WrongLength = ⊥
+abbrev pub Told : List ℕ → Result Address WrongLength → Type 0
+Told s (Ok (Whole magazine row)) = (sent_magazine s ≡ magazine) × (sent_row s ≡ row)
+Told s (Ok (First magazine weight1)) = sent_magazine s ≡ magazine
+Told s (Ok (Second second)) = 2 * second ≤ sent_row s
+Told s (Ok Unread) = Unit {0}
+Told s (Err short) = ⊥
 
 second_told : (s : List ℕ) → 2 * sent_second s ≤ sent_row s
 unfolding sent_row row_of
@@ -63,7 +63,7 @@ second_told s = most (row_weight1 (sent_first s)) (2 * sent_second s)
     most : (a b : ℕ) → b ≤ a + b
     most a b = omega arith
 
-shown_told : (s : List ℕ) (one two : Option ℕ) → AsSent (sent_first s) one → AsSent (sent_second s) two → Told s (shown one two)
+shown_told : (s : List ℕ) (one two : Option ℕ) → AsSent (sent_first s) one → AsSent (sent_second s) two → Told s (Ok (shown one two))
 unfolding shown sent_magazine sent_row
 shown_told s one two (inl p) (inl q) = rw (p, q) (refl, refl)
 shown_told s one two (inl p) (inr q) = rw (p, q) refl
@@ -79,7 +79,7 @@ module _ (d : ℕ) (mild : d ≤ throughout) (s r : List ℕ) (sent : T (sent_by
       (second-two d s r sent damaged mild))
 
   -- an address that is read whole is the one that was sent
-  pub whole_sent : (magazine row : ℕ) → address_of (line_packet r) ≡ Whole magazine row → (sent_magazine s ≡ magazine) × (sent_row s ≡ row)
+  pub whole_sent : (magazine row : ℕ) → address_of (line_packet r) ≡ Ok (Whole magazine row) → (sent_magazine s ≡ magazine) × (sent_row s ≡ row)
   whole_sent magazine row e = subst (Told s) e told
 
   -- and a line of another's is none of our rows that carry characters
@@ -92,7 +92,7 @@ module _ (d : ℕ) (mild : d ≤ throughout) (s r : List ℕ) (sent : T (sent_by
 
   -- ---- the header
 
-  pub header-sent : sent_row s ≡ 0 → (found : Header) → header_of (line_packet r) ≡ Good found → found ≡ sent_header s
+  pub header-sent : sent_row s ≡ 0 → (found : Header) → header_of (line_packet r) ≡ Ok found → found ≡ sent_header s
   header-sent zeroth found e =
       ⊎_elim (λ p. cc) (λ p. absurd (let z : ◌≡◌ {A = ℕ} 0 1 = cc in omega arith)) (header-two d s r sent damaged zeroth mild)
 

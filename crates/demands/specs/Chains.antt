@@ -1,8 +1,7 @@
 -- A run as calls: whoever feeds the lines hands each call what the call before gave. Whichever entry takes a line, the answers, the receivers and the
 -- records are the run's own; and answers and receivers do not depend on what the lent record holds.
-use Rattle.std.specs.Prelude.{Bool, List, ◌≡◌, ℕ, zero, suc, ◌<◌, ltb, length}
+use Rattle.std.specs.Prelude.{Bool, List, ◌≡◌, ℕ, zero, suc, ◌<◌, ltb, length, Ok}
 use Rattle.packet.specs.Lines.{framed, packet_of}
-use Rattle.packet.specs.declared.Framed.TheVariants.{Packet}
 use Rattle.page.specs.Records.{record_length}
 use Rattle.receiver.specs.Entries.{Meets, line_entered, made, packet_entered}
 use Rattle.receiver.specs.declared.Stepped.{Stepped}
@@ -14,7 +13,7 @@ use Rattle.demands.specs.Runs.{Between, Run, entry_at, received_at}
 -- line whose framing passes
 pub data Called (between : Between) (line : List ℕ) (gave : Stepped) (left : List ℕ) : Type 0 where
   by_line : Meets (line_entered between.receiver line between.lent) gave left → Called between line gave left
-  by_packet : framed line ≡ Packet → Meets (packet_entered between.receiver (packet_of line) between.lent) gave left → Called between line gave left
+  by_packet : framed line ≡ Ok tt → Meets (packet_entered between.receiver (packet_of line) between.lent) gave left → Called between line gave left
 
 -- what a call is handed: at first the new receiver, and then what the call before gave and left
 unfoldable pub handed : Run → (ℕ → Stepped) → (ℕ → List ℕ) → ℕ → Between

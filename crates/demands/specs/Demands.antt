@@ -2,7 +2,7 @@
 -- else (A); equal clean records mean equal sendings (B); and with little damage the page does close clean (C).
 --
 -- Each of the three is a type, and its proof stands in proofs/. The runs are in Runs.antt; Chains.antt and Recorded.antt tie them to the entries.
-use Rattle.std.specs.Prelude.{◌≡◌, true, not, List, ℕ, ◌-◌, ◌≤◌, ◌<◌, T, length, take, drop, replicate}
+use Rattle.std.specs.Prelude.{◌≡◌, true, not, List, ℕ, ◌-◌, ◌≤◌, ◌<◌, T, length, take, drop, replicate, Ok, Some}
 use Rattle.std.proofs.Math.Option.{Option, none, some}
 use Rattle.laws.specs.Every.{every}
 use Rattle.grid.specs.Grid.{columns, last_row}
@@ -13,7 +13,6 @@ use Rattle.page.specs.Reading.{page_read, read_answer}
 use Rattle.page.specs.Records.{record_length}
 use Rattle.page.specs.declared.Cells.{Cells}
 use Rattle.page.specs.declared.Page.{Page}
-use Rattle.page.specs.declared.ReadAnswer.TheVariants.{Read}
 use Rattle.receiver.specs.Entries.{closing_number}
 use Rattle.receiver.specs.Selections.{in_range, matches}
 use Rattle.receiver.specs.declared.Closing.TheVariants.{Clean}
@@ -42,7 +41,7 @@ pub record Fed (run : Run) : Type 0 where
 -- the answer at line j closes clean
 pub record ClosesClean (run : Run) (j : ℕ) : Type 0 where
   pub line : j < length run.lines
-  pub word : closing_of (entry_at run j) ≡ closing_number Clean
+  pub word : closing_of (entry_at run j) ≡ closing_number (Some Clean)
 
 -- line i is a row 0 of the selected magazine, and line j is the first one sent after it that ends its page
 pub record Follows (run : Run) (i j : ℕ) : Type 0 where
@@ -77,7 +76,7 @@ pub record Received (run : Run) (j i : ℕ) : Type 0 where
   pub follows : Follows run i j
   pub matched : T (matches run.selection (sent_header (sent_at run.lines i)))
   pub kind : kind_of (entry_at run i) ≡ 2
-  pub reads : read_answer (record_after run j) ≡ Read
+  pub reads : read_answer (record_after run j) ≡ Ok tt
   pub holds : Holds run i j (page_read (record_after run j))
 
 -- one number, and no other
@@ -125,8 +124,8 @@ pub record Light (run : Run) (i j : ℕ) : Type 0 where
 pub record Passes (run : Run) (i j : ℕ) : Type 0 where
   pub kind : kind_of (entry_at run i) ≡ 2
   pub count : count_of (entry_at run i) ≡ columns - header_column
-  pub word : closing_of (entry_at run j) ≡ closing_number Clean
-  pub reads : read_answer (record_after run j) ≡ Read
+  pub word : closing_of (entry_at run j) ≡ closing_number (Some Clean)
+  pub reads : read_answer (record_after run j) ≡ Ok tt
   pub holds : Holds run i j (page_read (record_after run j))
 
 -- where line i matches the selection and line j is the next that ends its page. What came before line i is free, within the damage or not, and line

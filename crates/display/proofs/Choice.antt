@@ -17,15 +17,6 @@ set_off false false = refl
 pub switched : (x on off : Bool) → (x || on) && not off ≡ cond off false (cond on true x)
 switched x on off = rw (set_on x on, set_off)
 
--- a first part that settles a "both", and one that leaves it to the second
-pub settled : (x y : Bool) → not x ≡ true → false ≡ x && y
-settled true y e = absurd (false≢true e)
-settled false y e = refl
-
-pub left_to : (x y : Bool) → not x ≡ false → y ≡ x && y
-left_to true y e = refl
-left_to false y e = absurd (false≢true (sym e))
-
 -- whether a row is asked for 0D at all: not below a doubled one, nor where 0D does not count
 pub not_asked : (below counts has : Bool) → below || not counts ≡ true → false ≡ counts && (not below && has)
 not_asked true true has e = refl

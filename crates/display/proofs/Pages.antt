@@ -1,6 +1,6 @@
 -- A page as a whole: when it is shown and when it is refused, and that it has always the grid's cells.
 use mathlib.Core.Path.{◌≡◌, refl}
-use mathlib.Core.Bool.{Bool, true, false, cond}
+use mathlib.Core.Bool.{Bool, true, false}
 use mathlib.Core.List.{List, [], ◌∷◌}
 use Prim.Native.Nat.{ℕ, suc, ◌<◌, ◌≤◌}
 use native.Mathlib.Omega.{arith}
@@ -11,8 +11,7 @@ use Rattle.laws.specs.Paper.{accepted, refused_by}
 use Rattle.laws.proofs.Bools.{both_true}
 use Rattle.grid.specs.Grid.{cell_count}
 use Rattle.display.specs.Display.{zero_cell}
-use Rattle.display.specs.Pages.{all_codes, display_answer_paper, displayed, is_page, page_cells, zero_cells}
-use Rattle.display.specs.Private.{answer_if}
+use Rattle.display.specs.Pages.{all_codes, displayed, is_page, page_cells, zero_cells}
 use Rattle.display.proofs.Rows.{page-length}
 use Rattle.display.proofs.Steps.{codes_none, codes_cons}
 
@@ -54,17 +53,3 @@ always codes false e = rw (refused_page codes e) zeros_length
 -- the page has always the grid's cells, shown or refused
 pub always_whole : (codes : List ℕ) → length (displayed codes).cells ≡ cell_count
 always_whole codes = always codes (is_page codes) refl
-
--- ---- as it is worked out
-
--- where some cells are to be shown, all are, and there are as many codes
-pub all_shown : (codes : List ℕ) (page : Bool) → is_page codes ≡ page → (count : ℕ) → count ≡ cond page cell_count 0 → 0 < count
-    → (length codes ≡ cell_count) × (count ≡ cell_count)
-all_shown codes true e count is h = ((page_is codes e).0, is)
-all_shown codes false e count is h = absurd (omega arith)
-
--- the answer, by whether the page is shown
-pub answer_is : (codes : List ℕ) (page : Bool) → is_page codes ≡ page → display_answer_paper (answer_if page) ≡ (displayed codes).answer
-unfolding display_answer_paper
-answer_is codes true e = rw (shown_page codes e)
-answer_is codes false e = rw (refused_page codes e)

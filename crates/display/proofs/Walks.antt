@@ -1,21 +1,20 @@
 -- The way down a page: what is known at each cell, and that it is known at the next one.
 use mathlib.Core.Path.{◌≡◌, refl, ◌∙◌, sym, ap}
-use mathlib.Core.Bool.{Bool, true, false, cond, false≢true}
+use mathlib.Core.Bool.{Bool, true, false, false≢true}
 use mathlib.Core.List.{List, [], ◌∷◌, ◌++◌, map}
 use Prim.Native.Nat.{ℕ, zero, suc, ◌+◌, ◌-◌, ◌*◌, ◌/◌, ◌<◌, ◌≤◌}
 use native.Mathlib.Numerals.{add-one}
 use native.Mathlib.Omega.{arith}
-use lib.ListN.{length, get_or, set, take, drop, length-set, length-map, length-replicate}
-use lib.Seq.{drop-cons, take_all, take-suc, take-suc-set, drop-set-lt, drop-drop, get_or-take}
+use lib.ListN.{length, get_or, set, take, drop, length-set, length-map}
+use lib.Seq.{drop-cons, take_all, take-suc, take-suc-set, get_or-take}
 use Rattle.laws.proofs.Lists.{get_d_map, get_d_part}
 use Rattle.grid.specs.Grid.{cell_count, columns, rows}
 use Rattle.display.specs.Display.{along, cell_at, next, start, zero_cell}
-use Rattle.display.specs.Pages.{Displayed, displayed, is_page, may_double, page_cells, read_as, row_alone, row_codes, row_shown, under, zero_cells}
+use Rattle.display.specs.Pages.{may_double, page_cells, read_as, row_alone, row_codes, row_shown, under}
 use Rattle.display.specs.Private.{doubles, first_row, next_row}
 use Rattle.display.specs.declared.Cell.{Cell}
 use Rattle.display.specs.declared.doubling.PageRow.{PageRow}
 use Rattle.display.specs.declared.state.RowState.{RowState}
-use Rattle.display.proofs.Pages.{page_is, refused_page, shown_page}
 use Rattle.display.proofs.Rows.{
   below_doubled,
   doubled_is,
@@ -40,11 +39,10 @@ abbrev pub Ahead : List ℕ → ℕ → ℕ → RowState → Type 0
 Ahead codes number column state =
     below_doubled codes number ≡ false → along state (drop column (read_codes codes number)) ≡ drop column (row_shown codes number)
 
--- the cells before this place are the page's, and the others are zeros
+-- the cells before this place are the page's
 pub record Filled (codes : List ℕ) (place : ℕ) (cells : List Cell) : Type 0 where
   pub size : length cells ≡ cell_count
   pub done : take place cells ≡ take place (page_cells codes)
-  pub rest : drop place cells ≡ drop place zero_cells
 
 -- the place's row by its number, its column, and what the way down holds of them
 pub record Reached (codes : List ℕ) (row : PageRow) (state : RowState) (place : ℕ) (cells : List Cell) : Type 0 where
@@ -69,9 +67,9 @@ tails e = ap (drop 1) e
 row_start : (codes : List ℕ) (number : ℕ) → Ahead codes number 0 start
 row_start codes number free = sym (shown_alone codes number free ∙ alone_is codes number)
 
-pub begun : (codes : List ℕ) → Reached codes first_row start 0 zero_cells
-unfolding may_double zero_cells
-begun codes =
+pub begun : (codes : List ℕ) (cells : List Cell) → length cells ≡ cell_count → Reached codes first_row start 0 cells
+unfolding may_double
+begun codes cells size =
     record {
       number = 0;
       column = 0;
@@ -80,7 +78,7 @@ begun codes =
       end = refl;
       counts = refl;
       below = refl;
-      filled = record { size = length-replicate cell_count zero_cell; done = refl; rest = refl };
+      filled = record { size = size; done = refl };
       ahead = row_start codes 0;
     }
 
@@ -192,9 +190,6 @@ module _ (codes : List ℕ) (full : length codes ≡ cell_count) {row : PageRow}
             (take-suc-set cells place cell (omega arith)
             ∙ (ap (λ (before : List Cell). before ++ (cell ∷ [])) known.filled.done
             ∙ (ap (λ (last : Cell). take place (page_cells codes) ++ (last ∷ [])) (is ∙ sym here) ∙ sym (take-suc (page_cells codes) place zero_cell (omega arith)))));
-        rest =
-            drop-set-lt (place + 1) cells place cell (omega arith)
-            ∙ (sym (drop-drop 1 place cells) ∙ (ap (drop 1) known.filled.rest ∙ drop-drop 1 place zero_cells));
       }
 
   -- ---- the next cell
@@ -247,29 +242,12 @@ module _ (codes : List ℕ) (full : length codes ≡ cell_count) {row : PageRow}
 
 -- ---- at the end
 
--- a row's end past the count is past all cells
-all_passed : (page : Bool) (count place number column : ℕ) → count ≡ cond page cell_count 0 → place ≤ count → place ≡ columns * number + column
-    → count < columns * (number + 1) → place ≡ cond page cell_count 0
-all_passed true count place number column is few here passed = omega arith
-all_passed false count place number column is few here passed = omega arith
-
--- the cells are the page's where all are done, and zeros where none is
-all_or_none : (codes : List ℕ) (page : Bool) → is_page codes ≡ page → {place : ℕ} {cells : List Cell} → Filled codes place cells
-    → place ≡ cond page cell_count 0 → cells ≡ (displayed codes).cells
-all_or_none codes true e {place} {cells} filled end =
-    let long = page-length codes (page_is codes e).0 in
-    let size = filled.size in
-    sym (take_all place cells (omega arith))
-    ∙ (filled.done ∙ (take_all place (page_cells codes) (omega arith) ∙ sym (ap (λ (d : Displayed). d.cells) (shown_page codes e))))
-all_or_none codes false e {place} {cells} filled end =
-    ap (λ (n : ℕ). drop n cells) (sym end)
-    ∙ (filled.rest ∙ (ap (λ (n : ℕ). drop n zero_cells) end ∙ sym (ap (λ (d : Displayed). d.cells) (refused_page codes e))))
-
-pub at_end : (codes : List ℕ) {row : PageRow} {state : RowState} {place : ℕ} {cells : List Cell} → Reached codes row state place cells
-    → {count : ℕ} → count ≡ cond (is_page codes) cell_count 0 → place ≤ count → count < row.end → cells ≡ (displayed codes).cells
-at_end codes {place = place} known {count} is few passed =
-    let end = known.end in
-    all_or_none codes (is_page codes) refl known.filled (all_passed (is_page codes) count place known.number known.column is few known.here (omega arith))
+pub at_end : (codes : List ℕ) → length codes ≡ cell_count → {row : PageRow} {state : RowState} {place : ℕ} {cells : List Cell}
+    → Reached codes row state place cells → cell_count ≤ place → cells ≡ page_cells codes
+at_end codes full {place = place} {cells = cells} known all =
+    let long = page-length codes full in
+    let size = known.filled.size in
+    sym (take_all place cells (omega arith)) ∙ (known.filled.done ∙ take_all place (page_cells codes) (omega arith))
 
 -- the same, of what is equal
 pub filled_as : {codes : List ℕ} {place : ℕ} {cells cells' : List Cell} → Filled codes place cells → cells' ≡ cells → Filled codes place cells'

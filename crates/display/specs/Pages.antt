@@ -1,16 +1,14 @@
 -- Document 02, request 1: a row alone, by whether 0D counts on it; which rows are doubled; what the row below a doubled one shows; the page. Then refusal 25, which
 -- asks for the page's 1,000 codes, and the answer. With request 5, row 24 is one of the page's.
-use Rattle.std.specs.Prelude.{Bool, true, false, not, cond, ◌&&◌, ◌||◌, List, [], ◌∷◌, ◌++◌, map, ℕ, zero, suc, ◌*◌, eqb, leb, length, take, drop, replicate}
+use Rattle.std.specs.Prelude.{Bool, true, false, not, cond, ◌&&◌, ◌||◌, List, [], ◌∷◌, ◌++◌, map, ℕ, zero, suc, ◌*◌, eqb, leb, length, take, drop, replicate, Result, Ok, Err}
 use Rattle.laws.specs.Every.{every}
 use Rattle.laws.specs.Paper.{Paper, accepted, refused_by}
 use Rattle.grid.specs.Grid.{cell_count, columns, rows}
 use Rattle.display.specs.Display.{along, space, start, within, zero_cell}
 use Rattle.display.specs.declared.Cell.{Cell}
-use Rattle.display.specs.declared.DisplayAnswer.{DisplayAnswer}
-use Rattle.display.specs.declared.DisplayAnswer.TheVariants.{Shown, Refused}
-use Rattle.display.specs.declared.DisplayedPage.{DisplayedPage}
 use Rattle.display.specs.declared.Height.{Height}
 use Rattle.display.specs.declared.Height.TheVariants.{Normal, Upper, Lower}
+use Rattle.display.specs.declared.NotAPage.{NotAPage}
 
 -- ---- a row alone
 
@@ -143,12 +141,18 @@ displayed codes =
     (record { answer = accepted []; cells = page_cells codes })
     (record { answer = refused_by 25 []; cells = zero_cells })
 
--- the paper's number and values of the answer: shown has no value but the cells beside it
-unfoldable pub display_answer_paper : DisplayAnswer → Paper
+-- the paper's number and values of the answer: what is shown is no value of the paper's, but stands beside it
+unfoldable pub display_answer_paper : {A : Type 0} → Result A NotAPage → Paper
 unfolding accepted refused_by
-display_answer_paper Shown = accepted []
-display_answer_paper Refused = refused_by 25 []
+display_answer_paper (Ok shown) = accepted []
+display_answer_paper (Err refusal) = refused_by 25 []
 
-unfoldable pub displayed_paper : DisplayedPage → Displayed
-unfolding display_answer_paper
-displayed_paper page = record { answer = display_answer_paper page.answer; cells = page.cells }
+-- the cells beside it
+unfoldable pub cells_beside : Result (List Cell) NotAPage → List Cell
+unfolding zero_cells
+cells_beside (Ok cells) = cells
+cells_beside (Err refusal) = zero_cells
+
+unfoldable pub displayed_paper : Result (List Cell) NotAPage → Displayed
+unfolding display_answer_paper cells_beside
+displayed_paper page = record { answer = display_answer_paper page; cells = cells_beside page }

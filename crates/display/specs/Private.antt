@@ -1,10 +1,8 @@
 -- For the contracts of private functions: no promise rests on these words.
-use Rattle.std.specs.Prelude.{Bool, false, not, cond, ◌&&◌, ◌||◌, List, ℕ, ◌+◌, ◌-◌, ◌/◌, take, drop}
+use Rattle.std.specs.Prelude.{Bool, false, not, ◌&&◌, ◌||◌, List, ℕ, ◌+◌, ◌-◌, ◌/◌, take, drop}
 use Rattle.grid.specs.Grid.{columns}
 use Rattle.display.specs.Display.{within}
 use Rattle.display.specs.Pages.{has_double, may_double}
-use Rattle.display.specs.declared.DisplayAnswer.{DisplayAnswer}
-use Rattle.display.specs.declared.DisplayAnswer.TheVariants.{Shown, Refused}
 use Rattle.display.specs.declared.state.RowState.{RowState}
 use Rattle.display.specs.declared.Symbol.{Symbol}
 use Rattle.display.specs.declared.doubling.PageRow.{PageRow}
@@ -25,10 +23,6 @@ passed state held code =
       held = held;
       before = code;
     }
-
--- the answer for a page that is shown, or is not
-abbrev pub answer_if : Bool → DisplayAnswer
-answer_if shown = cond shown Shown Refused
 
 -- the codes from the first to the last that take effect at their own cell, in their two runs
 unfoldable pub acts_at_once : ℕ → Bool

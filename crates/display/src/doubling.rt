@@ -22,6 +22,7 @@ pub struct PageRow {
     pub counts: bool,
 }
 
+#[tactic(auto, unfolding(crate::specs::Pages::may_double))]
 fn may_double(row: usize) -> bool
     ensures { result ≡ may_double row }
 {
@@ -29,19 +30,19 @@ fn may_double(row: usize) -> bool
 }
 
 // Whether one of some codes is 0D. Every code is asked, with no branch.
+#[tactic(auto, unfolding(crate::specs::Pages::has_double))]
 fn has_double(codes: &[u8]) -> bool
     ensures { result ≡ has_double codes.now }
 {
     let mut found = false;
-    let mut i = 0;
-    while i < codes.len() {
-        found = found | (codes[i] == DOUBLE);
-        i += 1;
+    for code in codes {
+        found = found | (*code == DOUBLE);
     }
     found
 }
 
 // A code, or 00 in the place of a 0D that does not count.
+#[tactic(auto, unfolding(crate::specs::Pages::read_as))]
 pub(crate) fn read_as(counts: bool, code: u8) -> u8
     ensures { result ≡ read_as counts code }
 {
@@ -52,56 +53,42 @@ pub(crate) fn read_as(counts: bool, code: u8) -> u8
     }
 }
 
+#[tactic(auto, unfolding(crate::specs::Pages::is_double))]
 fn is_double(height: Height) -> bool
     ensures { result ≡ is_double height }
 {
-    match height {
-        Height::Normal => false,
-        Height::Upper => true,
-        Height::Lower => true,
-    }
+    height != Height::Normal
 }
 
 // The lower half of a double cell.
+#[tactic(auto, unfolding(crate::specs::Pages::lower_half))]
 fn lower_half(cell: Cell) -> Cell
     ensures { result ≡ lower_half cell }
 {
-    let symbol = cell.symbol;
-    let height = Height::Lower;
     Cell {
-        symbol,
-        foreground: cell.foreground,
-        background: cell.background,
-        flash: cell.flash,
-        conceal: cell.conceal,
-        boxed: cell.boxed,
-        height,
+        height: Height::Lower,
+        ..cell
     }
 }
 
 // A space under a cell that is not double.
+#[tactic(auto, unfolding(crate::specs::Pages::space_under))]
 fn space_under(above: Cell) -> Cell
     ensures { result ≡ space_under above }
 {
-    let symbol = Symbol::Letter(0x20);
-    let height = Height::Normal;
     Cell {
-        symbol,
-        foreground: above.foreground,
-        background: above.background,
-        flash: above.flash,
-        conceal: above.conceal,
-        boxed: above.boxed,
-        height,
+        symbol: Symbol::Letter(0x20),
+        height: Height::Normal,
+        ..above
     }
 }
 
 // What is shown under a cell of a doubled row.
+#[tactic(auto, unfolding(crate::specs::Pages::under))]
 pub(crate) fn under(cell: Cell) -> Cell
     ensures { result ≡ under cell }
 {
-    let height = cell.height;
-    if is_double(height) {
+    if is_double(cell.height) {
         lower_half(cell)
     } else {
         space_under(cell)
@@ -127,21 +114,17 @@ impl PageRow {
         if self.below | !self.counts {
             return false;
         }
-        let end = self.end;
-        has_double(&codes[end - COLUMNS..end])
+        has_double(&codes[self.end - COLUMNS..self.end])
     }
 
     pub(crate) fn next(self, codes: &[u8]) -> PageRow
         requires { (columns ≤ self.end) × (self.end ≤ length codes.now) }
         ensures { result ≡ next_row self codes.now }
     {
-        let below = self.doubles(codes);
-        let end = self.end;
-        let counts = may_double(end / COLUMNS);
         PageRow {
-            end: end + COLUMNS,
-            below,
-            counts,
+            end: self.end + COLUMNS,
+            below: self.doubles(codes),
+            counts: may_double(self.end / COLUMNS),
         }
     }
 }

@@ -4,10 +4,8 @@
 mod doubling;
 mod state;
 
-ghost use Rattle.std.specs.Prelude.{◌≡◌, cond};
-ghost use Rattle.grid.specs.Grid.{cell_count};
-ghost use Rattle.display.specs.Pages.{displayed, displayed_paper, is_page, zero_cells};
-ghost use Rattle.display.specs.Private.{answer_if};
+ghost use Rattle.std.specs.Prelude.{◌≡◌, true};
+ghost use Rattle.display.specs.Pages.{displayed, displayed_paper, is_page, page_cells, zero_cells};
 
 use doubling::PageRow;
 use grid::{CELLS, COLUMNS};
@@ -27,7 +25,7 @@ pub enum Symbol {
 }
 
 // Whether a cell is of normal size, or the upper or the lower half of a double one.
-#[derive(Clone, Copy)]
+#[derive(Clone, Copy, PartialEq, Eq)]
 pub enum Height {
     Normal,
     Upper,
@@ -46,21 +44,12 @@ pub struct Cell {
     pub height: Height,
 }
 
-// Whether a page was shown, or refused because it is not a page's codes, as many as its cells, of 00 to 7F.
-#[derive(Drop)]
-pub enum DisplayAnswer {
-    Shown,
-    Refused,
-}
-
-// An answer and the cells beside it, which are all zeros where the page was refused.
-#[derive(Drop)]
-pub struct DisplayedPage {
-    pub answer: DisplayAnswer,
-    pub cells: [Cell; CELLS],
-}
+// Why a page is refused, by 25: its codes are no page's, as many as its cells, of 00 to 7F.
+#[derive(Clone, Copy, PartialEq, Eq)]
+pub struct NotAPage;
 
 // Whether these are a page's codes, of 00 to 7F. Every code is asked, with no branch, which is cheaper than to stop at the first that is none.
+#[tactic(auto, unfolding(crate::specs::Pages::is_page))]
 fn is_page(codes: &[u8]) -> bool
     ensures { result ≡ is_page codes.now }
 {
@@ -68,92 +57,68 @@ fn is_page(codes: &[u8]) -> bool
         return false;
     }
     let mut high = false;
-    let mut place = 0;
-    while place < CELLS {
-        high = high | (codes[place] > LAST_CODE);
-        place += 1;
+    for code in codes {
+        high = high | (*code > LAST_CODE);
     }
     !high
 }
 
+#[tactic(auto, unfolding(crate::specs::Pages::zero_cells))]
 fn zero_cells() -> [Cell; CELLS]
     ensures { result ≡ zero_cells }
 {
-    let symbol = Symbol::Letter(0x00);
-    let height = Height::Normal;
     let zero = Cell {
-        symbol,
+        symbol: Symbol::Letter(0x00),
         foreground: 0,
         background: 0,
         flash: false,
         conceal: false,
         boxed: false,
-        height,
+        height: Height::Normal,
     };
     [zero; CELLS]
 }
 
-// How many of a page's codes are shown: all, or none where it is refused.
-fn count_if(shown: bool) -> usize
-    ensures { result ≡ cond shown cell_count 0 }
+// The cells of a page, one step for each, with no copy for a row. A row below a doubled one is made from the cells above it.
+// Control codes and printed codes each store their own cell, so that little is moved where the branches meet.
+fn fill(cells: &mut [Cell; CELLS], codes: &[u8])
+    requires { is_page codes.now ≡ true }
+    ensures { cells.new ≡ page_cells codes.now }
 {
-    if shown { CELLS } else { 0 }
-}
-
-fn answer_if(shown: bool) -> DisplayAnswer
-    ensures { result ≡ answer_if shown }
-{
-    if shown {
-        DisplayAnswer::Shown
-    } else {
-        DisplayAnswer::Refused
-    }
-}
-
-// The cells of a page that is shown, one step for each, and zeros for one that is not: one array serves both and is filled where it lies, with no copy for a row. A
-// row below a doubled one is made from the cells above it. Control codes and printed codes each store their own cell, so that little is moved where the branches meet.
-fn cells_of(codes: &[u8], shown: bool) -> [Cell; CELLS]
-    requires { shown ≡ is_page codes.now }
-    ensures { result ≡ (displayed codes.now).cells }
-{
-    let count = count_if(shown);
-    let mut cells = zero_cells();
     let mut row = PageRow::first();
     let mut state = RowState::start();
-    let mut place = 0;
-    while row.end <= count {
+    for place in 0..CELLS {
         let code = codes[place];
         if row.below {
-            let above = cells[place - COLUMNS];
-            cells[place] = doubling::under(above);
+            cells[place] = doubling::under(cells[place - COLUMNS]);
         } else if code < FIRST_PRINTED {
             let read = doubling::read_as(row.counts, code);
             let own = state.own(read);
-            let symbol = own.shown_control();
-            cells[place] = own.cell(symbol);
+            cells[place] = own.cell(own.shown_control());
             state = own.after(read);
         } else {
             let step = state.printed(code);
-            let cell = step.cell;
-            cells[place] = cell;
-            let next = step.next;
-            state = next;
+            cells[place] = step.cell;
+            state = step.next;
         }
-        place += 1;
-        if place == row.end {
+        if place + 1 == row.end {
             row = row.next(codes);
             state = RowState::start();
         }
     }
-    cells
 }
 
-// The cells of a page, in the order of its rows.
-pub fn page_of(codes: &[u8]) -> DisplayedPage
+// The cells of a page, in the order of its rows. They are filled in the answer, where they lie: put into it afterwards, they would be copied.
+#[tactic(auto, using(crate::proofs::Pages::shown_page, crate::proofs::Pages::refused_page), unfolding(crate::specs::Pages::displayed_paper))]
+pub fn page_of(codes: &[u8]) -> Result<[Cell; CELLS], NotAPage>
     ensures { displayed_paper result ≡ displayed codes.now }
 {
-    let shown = is_page(codes);
-    let cells = cells_of(codes, shown);
-    let answer = answer_if(shown);
-    DisplayedPage { answer, cells }
+    if !is_page(codes) {
+        return Err(NotAPage);
+    }
+    let mut page = Ok(zero_cells());
+    if let Ok(cells) = &mut page {
+        fill(cells, codes);
+    }
+    page
 }

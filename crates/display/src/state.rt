@@ -31,16 +31,10 @@ pub struct Step {
     pub next: RowState,
 }
 
-fn number_if(test: bool, number: u8, other: u8) -> u8
-    ensures { result ≡ cond test number other }
+fn choose<T: Copy>(test: bool, this: T, other: T) -> T
+    ensures { result ≡ cond test this other }
 {
-    if test { number } else { other }
-}
-
-fn symbol_if(test: bool, symbol: Symbol, other: Symbol) -> Symbol
-    ensures { result ≡ cond test symbol other }
-{
-    if test { symbol } else { other }
+    if test { this } else { other }
 }
 
 // What is held where nothing is.
@@ -61,6 +55,7 @@ fn pattern_of(code: u8) -> u8
 }
 
 // Whether a control code's effects, if it has any, are at its own cell; those of every other are after it.
+#[tactic(auto, unfolding(crate::specs::Private::acts_at_once))]
 fn acts_at_once(code: u8) -> bool
     ensures { result ≡ acts_at_once code }
 {
@@ -79,10 +74,10 @@ fn height_of(double: bool) -> Height
 }
 
 impl RowState {
+    #[tactic(auto, unfolding(crate::specs::Display::start))]
     pub(crate) fn start() -> RowState
         ensures { result ≡ start }
     {
-        let held = blank();
         RowState {
             mosaics: false,
             foreground: 7,
@@ -93,7 +88,7 @@ impl RowState {
             double: false,
             separated: false,
             hold: false,
-            held,
+            held: blank(),
             before: 0x00,
         }
     }
@@ -105,22 +100,17 @@ impl RowState {
         let boxes = (code == 0x0B) & (self.before == 0x0B);
         let unboxes = (code == 0x0A) & (self.before == 0x0A);
         let ends_double = (code == 0x0C) & self.double;
-        let lit = number_if(code == 0x1D, self.foreground, self.background);
-        let background = number_if(code == 0x1C, 0, lit);
-        let old_held = self.held;
-        let held = symbol_if(ends_double, blank(), old_held);
+        let lit = choose(code == 0x1D, self.foreground, self.background);
         RowState {
-            mosaics: self.mosaics,
-            foreground: self.foreground,
-            background,
+            background: choose(code == 0x1C, 0, lit),
             flash: self.flash & (code != 0x09),
             conceal: self.conceal | (code == 0x18),
             boxed: self.boxed & !unboxes | boxes,
             double: self.double & (code != 0x0C),
             separated: (self.separated | (code == 0x1A)) & (code != 0x19),
             hold: self.hold | (code == 0x1E),
-            held,
-            before: self.before,
+            held: choose(ends_double, blank(), self.held),
+            ..self
         }
     }
 
@@ -135,6 +125,7 @@ impl RowState {
     }
 
     // Whether the code is a mosaic, and no letter, in this state.
+    #[tactic(auto, unfolding(crate::specs::Display::gives_pattern))]
     fn gives_pattern(self, code: u8) -> bool
         ensures { result ≡ gives_pattern self code }
     {
@@ -144,26 +135,28 @@ impl RowState {
         (0x20 <= code) & (code <= 0x3F) | (0x60 <= code) & (code <= 0x7F)
     }
 
+    #[tactic(auto, unfolding(crate::specs::Display::mosaic))]
     fn mosaic(self, code: u8) -> Symbol
         ensures { result ≡ mosaic self code }
     {
-        let pattern = pattern_of(code);
-        let separated = self.separated;
-        Symbol::Mosaic { pattern, separated }
+        Symbol::Mosaic {
+            pattern: pattern_of(code),
+            separated: self.separated,
+        }
     }
 
     // What a control code shows.
+    #[tactic(auto, unfolding(crate::specs::Display::shown_control))]
     pub(crate) fn shown_control(self) -> Symbol
         ensures { result ≡ shown_control self }
     {
-        let held = self.held;
-        symbol_if(self.hold & self.mosaics, held, Symbol::Letter(0x20))
+        choose(self.hold & self.mosaics, self.held, Symbol::Letter(0x20))
     }
 
+    #[tactic(auto, unfolding(crate::specs::Display::cell))]
     pub(crate) fn cell(self, symbol: Symbol) -> Cell
         ensures { result ≡ cell self symbol }
     {
-        let height = height_of(self.double);
         Cell {
             symbol,
             foreground: self.foreground,
@@ -171,7 +164,7 @@ impl RowState {
             flash: self.flash,
             conceal: self.conceal,
             boxed: self.boxed,
-            height,
+            height: height_of(self.double),
         }
     }
 
@@ -185,40 +178,28 @@ impl RowState {
         let colour = letters | mosaics;
         let doubles = code == 0x0D;
         let changes = letters & self.mosaics | mosaics & !self.mosaics | doubles & !self.double;
-        let foreground = number_if(colour, code % 8, self.foreground);
-        let old_held = self.held;
-        let held = symbol_if(changes, blank(), old_held);
         RowState {
             mosaics: (self.mosaics | mosaics) & !letters,
-            foreground,
-            background: self.background,
+            foreground: choose(colour, code % 8, self.foreground),
             flash: self.flash | (code == 0x08),
             conceal: self.conceal & !colour,
-            boxed: self.boxed,
             double: self.double | doubles,
-            separated: self.separated,
             hold: self.hold & (code != 0x1F),
-            held,
+            held: choose(changes, blank(), self.held),
             before: code,
+            ..self
         }
     }
 
     // The state after a code that has no effects after its cell: it changes what is held at most.
+    #[tactic(auto, unfolding(crate::specs::Private::passed))]
     fn passed(self, held: Symbol, code: u8) -> RowState
         ensures { result ≡ passed self held code }
     {
         RowState {
-            mosaics: self.mosaics,
-            foreground: self.foreground,
-            background: self.background,
-            flash: self.flash,
-            conceal: self.conceal,
-            boxed: self.boxed,
-            double: self.double,
-            separated: self.separated,
-            hold: self.hold,
             held,
             before: code,
+            ..self
         }
     }
 
@@ -228,8 +209,7 @@ impl RowState {
         ensures { result ≡ after_cell self code }
     {
         if acts_at_once(code) {
-            let held = self.held;
-            return self.passed(held, code);
+            return self.passed(self.held, code);
         }
         self.after_cell(code)
     }
@@ -241,14 +221,15 @@ impl RowState {
     {
         if self.gives_pattern(code) {
             let symbol = self.mosaic(code);
-            let cell = self.cell(symbol);
-            let next = self.passed(symbol, code);
-            Step { cell, next }
+            Step {
+                cell: self.cell(symbol),
+                next: self.passed(symbol, code),
+            }
         } else {
-            let held = self.held;
-            let cell = self.cell(Symbol::Letter(code));
-            let next = self.passed(held, code);
-            Step { cell, next }
+            Step {
+                cell: self.cell(Symbol::Letter(code)),
+                next: self.passed(self.held, code),
+            }
         }
     }
 }

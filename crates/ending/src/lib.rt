@@ -9,11 +9,7 @@ use watch::Watch;
 
 fn complain_of(rt: &impl Eprint, count: u64, one: &[u8], more: &[u8]) {
     console::complain_number(rt, count);
-    if count == 1 {
-        console::complain(rt, one);
-    } else {
-        console::complain(rt, more);
-    }
+    console::complain(rt, if count == 1 { one } else { more });
 }
 
 fn complain_refused(rt: &impl Eprint, count: u64, by: &[u8]) {
@@ -27,10 +23,8 @@ fn complain_refused(rt: &impl Eprint, count: u64, by: &[u8]) {
 // How many lines there were, and how many were refused. 12 and 18 never arise here.
 fn complain_counts(rt: &impl Eprint, watch: Watch) {
     complain_of(rt, watch.lines, b" line", b" lines");
-    if watch.by10 == 0 {
-        if watch.by11 == 0 {
-            console::complain(rt, b", none refused");
-        }
+    if watch.by10 == 0 && watch.by11 == 0 {
+        console::complain(rt, b", none refused");
     }
     complain_refused(rt, watch.by11, b" refused by 11");
     complain_refused(rt, watch.by10, b" refused by 10");
@@ -57,9 +51,7 @@ fn write_share(rt: &impl Eprint, text: &[u8], watch: Watch)
 }
 
 fn complain_share(rt: &impl Eprint, watch: Watch) {
-    let share = announcing::share_of(watch);
-    let bytes = share.bytes;
-    write_share(rt, &bytes[..share.used], watch);
+    write_share(rt, announcing::share_of(watch).as_bytes(), watch);
 }
 
 // All of it, for a page that was asked for by an argument: `part` is how many bytes the last line has, where it is no whole one.

@@ -3,58 +3,41 @@
 
 use grid::COLUMNS;
 use page::{FRESH, RECORD_LENGTH};
-use receiver::{Answer, Closing, Played, Receiver, Selection, When};
+use receiver::{Closing, Receiver, Selection, When};
 
 // The first cell of row 10.
 const PLACE: usize = 10 * COLUMNS;
 
 // The character in a record, where it was sent this time; elsewhere 0.
 fn sent_there(record: &[u8]) -> u8 {
-    let read = page::read_record(record);
-    let page = read.page;
-    let cells = page.cells;
-    let characters = cells.characters;
-    let marks = cells.marks;
-    if marks[PLACE] == FRESH {
-        characters[PLACE]
-    } else {
-        0
+    match page::read_record(record) {
+        Ok(page) if page.cells.marks[PLACE] == FRESH => page.cells.characters[PLACE],
+        _ => 0,
     }
 }
 
 // The character, where the lines close the page clean and it was sent this time; elsewhere 0.
 pub fn row_10(lines: &[u8]) -> u8 {
-    let when = When::Any;
     let selection = Selection {
         magazine: 1,
         tens: 0,
         units: 0,
-        when,
+        when: When::Any,
     };
-    let new = Receiver::new(selection);
-    let receiver = new.receiver;
+    let Ok(receiver) = Receiver::new(selection) else {
+        return 0;
+    };
     let mut record = [0u8; RECORD_LENGTH];
     let recorded = receiver::take_recording(receiver, lines, &mut record);
-    let answer = recorded.answer;
-    match answer {
+    match recorded.answer {
         // Nothing closed; `recorded.receiver` goes on with the next lines.
-        Played::End => 0,
-        Played::Stopped(stop) => match stop {
-            Answer::Taken {
-                kind: _,
-                count: _,
-                closing,
-                mended: _,
-            } => match closing {
-                Closing::None => 0,
-                Closing::Doubt => 0,
-                Closing::Clean => sent_there(&record),
-            },
-            // Refused: 18, 12, 10, and 11, which leaves a gap in an open page.
-            Answer::Unlawful => 0,
-            Answer::ShortRecord => 0,
-            Answer::WrongLength => 0,
-            Answer::WrongFraming => 0,
+        None => 0,
+        Some(Ok(taken)) => match taken.closing {
+            Some(Closing::Clean) => sent_there(&record),
+            Some(Closing::Doubt) => 0,
+            None => 0,
         },
+        // Refused: 18, 12, 10, and 11, which leaves a gap in an open page.
+        Some(Err(_)) => 0,
     }
 }

@@ -5,11 +5,12 @@ use mathlib.Core.List.{List, [], ◌∷◌}
 use Prim.Native.Nat.{ℕ, ◌+◌, ◌<◌, ◌≤◌}
 use native.Mathlib.Omega.{arith}
 use lib.ListN.{length, get_or}
+use Rattle.laws.proofs.Inverse.{never}
 use Rattle.laws.specs.Paper.{Paper, accepted, refused_by}
 use Rattle.field.specs.Field.{id_at, after_at, head_length, teletext_id, Here, the_end, a_unit, refused, here}
 use Rattle.field.specs.Field.{Start, start_at, nowhere, asked, start, unit_answer, unit_from, unit_at}
 use Rattle.field.specs.Search.{goes_on, step_of, step, ended_paper}
-use Rattle.field.specs.Private.{answered, step_told, line_step}
+use Rattle.field.specs.Private.{answered, go_on, start_told, step_told, line_step}
 use Rattle.field.proofs.Units.{counts, is_unit, begins_at}
 
 module _ (field : List ℕ) (place : ℕ) where
@@ -56,6 +57,18 @@ module _ (field : List ℕ) (place : ℕ) where
   line-decides h t = rw (← at_unit h) (simp t)
 
 -- ---- from a place asked
+
+-- what a start that was told shows: where it is, or the answer that it comes to
+pub told_place : (s : Start) {place : ℕ} → go_on place ≡ start_told s → s ≡ start_at place
+unfolding start_told
+told_place (start_at first) e = cc
+told_place (nowhere number) e = absurd (never (cc))
+
+pub told_refusal : (answer : Start → Paper) → ((number : ℕ) → refused_by number [] ≡ answer (nowhere number)) → (s : Start) {paper : Paper}
+    → answered paper ≡ start_told s → paper ≡ answer s
+unfolding start_told
+told_refusal answer refuses (start_at first) e = absurd (never (cc))
+told_refusal answer refuses (nowhere number) e = let same = refuses number in cc
 
 module _ (field : List ℕ) (place id size after : ℕ) where
   unit-on : (first : Start) → start field place ≡ first → unit_from field first ≡ accepted (id ∷ size ∷ after ∷ [])

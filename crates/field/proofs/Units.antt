@@ -8,14 +8,16 @@ use native.Mathlib.Omega.{arith}
 use borrow.Author.Tests.{eq-eqb, ne_eqb, lt-ltb, le-ltb, lt-leb, ltb-false, eqb-true, eqb-false, not-false}
 use lib.Dec.{eqb}
 use lib.ListN.{length}
+use Rattle.std.specs.Prelude.{Option, Some, None, Result, Ok, Err}
 use Rattle.laws.proofs.Bools.{neither}
 use Rattle.laws.proofs.Inverse.{never}
 use Rattle.laws.specs.Paper.{Paper}
 use Rattle.field.specs.Field.{identifier, low, high, known, no_field, past_field, asked, Start, start_at, nowhere, start}
 use Rattle.field.specs.Field.{id_at, length_at, after_at, teletext_id, teletext_length, short, wrong_length, the_end, a_unit, refused, here}
-use Rattle.field.specs.Field.{unit_answer, unit_from, unit_at, any_unit_paper}
-use Rattle.field.specs.declared.AnyUnit.{AnyUnit}
-use Rattle.field.specs.declared.AnyUnit.TheVariants.{Whole, End, NoField, PastField, Short, WrongLength}
+use Rattle.field.specs.Field.{unit_answer, unit_from, unit_at, error_paper, any_unit_paper}
+use Rattle.field.specs.declared.WholeUnit.{WholeUnit}
+use Rattle.field.specs.declared.FieldError.{FieldError}
+use Rattle.field.specs.declared.FieldError.TheVariants.{NoField, PastField, Short, WrongLength}
 
 -- equal answers have as many values
 pub counts : {a b : Paper} → a ≡ b → length a.values ≡ length b.values
@@ -173,21 +175,24 @@ teletext_length_law field place k u t = right_length (identifier field) (id_at f
 -- ---- every answer about a place is one that `unit_at` has a case for
 
 pub record Answered (answer : Paper) : Type 0 where
-  pub case : AnyUnit
+  pub case : Result (Option WholeUnit) FieldError
   pub is : answer ≡ any_unit_paper case
 
 at_place : (field : List ℕ) (place : ℕ) (at_end past wrong : Bool)
     → Answered (unit_answer field place (cond at_end the_end (cond past (refused 15) (cond wrong (refused 16) a_unit))))
-unfolding unit_answer any_unit_paper
-at_place field place true past wrong = record { case = End; is = refl }
-at_place field place false true wrong = record { case = Short place; is = refl }
-at_place field place false false true = record { case = WrongLength place; is = refl }
-at_place field place false false false = record { case = Whole (id_at field place) (length_at field place) (after_at field place); is = refl }
+unfolding unit_answer any_unit_paper error_paper
+at_place field place true past wrong = record { case = Ok None; is = refl }
+at_place field place false true wrong = record { case = Err (Short place); is = refl }
+at_place field place false false true = record { case = Err (WrongLength place); is = refl }
+at_place field place false false false = record {
+  case = Ok (Some (record { id = id_at field place; length = length_at field place; after = after_at field place }));
+  is = refl;
+}
 
 from_start : (field : List ℕ) (place : ℕ) (no-field past : Bool) → Answered (unit_from field (cond no-field (nowhere 14) (cond past (nowhere 17) (start_at (asked place)))))
-unfolding unit_from here any_unit_paper
-from_start field place true past = record { case = NoField; is = refl }
-from_start field place false true = record { case = PastField; is = refl }
+unfolding unit_from here any_unit_paper error_paper
+from_start field place true past = record { case = Err NoField; is = refl }
+from_start field place false true = record { case = Err PastField; is = refl }
 from_start field place false false =
     let first = asked place in
     at_place field first (eqb first (length field)) (short field first) (wrong_length (identifier field) (id_at field first) (length_at field first))

@@ -1,9 +1,10 @@
 -- Document 01, "From bits to packets": a data field is an identifier byte, then units: id, length, that many bytes. With the refusals 14 to 17
 -- in their order: 14, 17, then at each unit 15, 16. Every byte is read as it stands, and places count from the field's start.
-use Rattle.std.specs.Prelude.{Bool, cond, not, ◌&&◌, ◌||◌, List, [], ◌∷◌, ℕ, ◌+◌, eqb, leb, ltb, length, get_or}
+use Rattle.std.specs.Prelude.{Bool, cond, not, ◌&&◌, ◌||◌, List, [], ◌∷◌, ℕ, ◌+◌, eqb, leb, ltb, length, get_or, Option, Some, None, Result, Ok, Err}
 use Rattle.laws.specs.Paper.{Paper, accepted, refused_by}
-use Rattle.field.specs.declared.AnyUnit.{AnyUnit}
-use Rattle.field.specs.declared.AnyUnit.TheVariants.{Whole, End, NoField, PastField, Short, WrongLength}
+use Rattle.field.specs.declared.WholeUnit.{WholeUnit}
+use Rattle.field.specs.declared.FieldError.{FieldError}
+use Rattle.field.specs.declared.FieldError.TheVariants.{NoField, PastField, Short, WrongLength}
 
 -- ---- the identifier
 
@@ -111,12 +112,17 @@ unfoldable pub unit_at : List ℕ → ℕ → Paper
 unfolding unit_from start
 unit_at field place = unit_from field (start field place)
 
+-- the paper's number and values of a refusal
+unfoldable pub error_paper : FieldError → Paper
+unfolding refused_by
+error_paper NoField = refused_by 14 []
+error_paper PastField = refused_by 17 []
+error_paper (Short place) = refused_by 15 (place ∷ [])
+error_paper (WrongLength place) = refused_by 16 (place ∷ [])
+
 -- the paper's number and values of `unit_at`'s answer
-unfoldable pub any_unit_paper : AnyUnit → Paper
-unfolding accepted refused_by
-any_unit_paper (Whole id size after) = accepted (id ∷ size ∷ after ∷ [])
-any_unit_paper End = accepted []
-any_unit_paper NoField = refused_by 14 []
-any_unit_paper PastField = refused_by 17 []
-any_unit_paper (Short place) = refused_by 15 (place ∷ [])
-any_unit_paper (WrongLength place) = refused_by 16 (place ∷ [])
+unfoldable pub any_unit_paper : Result (Option WholeUnit) FieldError → Paper
+unfolding accepted error_paper
+any_unit_paper (Ok (Some unit)) = accepted (unit.id ∷ unit.length ∷ unit.after ∷ [])
+any_unit_paper (Ok None) = accepted []
+any_unit_paper (Err error) = error_paper error

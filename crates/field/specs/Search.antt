@@ -1,11 +1,11 @@
 -- Document 01, "From bits to packets": the search from a place passes over units of other ids, and teletext units whose offset is not 0 or 7 to 22
 -- or whose framing fails, and leaves from inside the walk at the first teletext unit.
-use Rattle.std.specs.Prelude.{Bool, cond, ◌&&◌, ◌||◌, List, [], ◌∷◌, ℕ, zero, suc, ◌+◌, ◌/◌, ◌%◌, eqb, leb, length, get_or}
+use Rattle.std.specs.Prelude.{Bool, cond, ◌&&◌, ◌||◌, List, [], ◌∷◌, ℕ, zero, suc, ◌+◌, ◌/◌, ◌%◌, eqb, leb, length, get_or, Option, Some, None, Result, Ok, Err}
 use Rattle.laws.specs.Paper.{Paper, accepted, refused_by}
 use Rattle.coding.specs.Bits.{framing_passes}
-use Rattle.field.specs.Field.{Here, the_end, a_unit, refused, here, Start, start_at, nowhere, start, head_length, teletext_id, id_at, after_at}
+use Rattle.field.specs.Field.{Here, the_end, a_unit, refused, here, Start, start_at, nowhere, start, head_length, teletext_id, id_at, after_at, error_paper}
 use Rattle.field.specs.declared.Found.{Found}
-use Rattle.field.specs.declared.Found.TheVariants.{Packet, NoMore, NoField, PastField, Short, WrongLength}
+use Rattle.field.specs.declared.FieldError.{FieldError}
 
 -- ---- a teletext unit: its 44 bytes are two reserved bits (not examined), a field parity bit, a 5-bit line offset, a framing code, and a packet
 
@@ -107,11 +107,8 @@ unfolding searched_from start
 searched field place = searched_from field (start field place)
 
 -- the paper's number and values of `search`'s answer
-unfoldable pub found_paper : Found → Paper
-unfolding accepted refused_by
-found_paper (Packet packet parity offset after) = accepted (packet ∷ parity ∷ offset ∷ after ∷ [])
-found_paper NoMore = accepted []
-found_paper NoField = refused_by 14 []
-found_paper PastField = refused_by 17 []
-found_paper (Short place) = refused_by 15 (place ∷ [])
-found_paper (WrongLength place) = refused_by 16 (place ∷ [])
+unfoldable pub found_paper : Result (Option Found) FieldError → Paper
+unfolding accepted error_paper
+found_paper (Ok (Some unit)) = accepted (unit.packet ∷ unit.parity ∷ unit.offset ∷ unit.after ∷ [])
+found_paper (Ok None) = accepted []
+found_paper (Err error) = error_paper error

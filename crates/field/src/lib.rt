@@ -5,13 +5,30 @@
 ghost use Rattle.std.specs.Prelude.{false, ◌≡◌, ◌+◌, ◌≤◌, ◌<◌, length};
 ghost use Rattle.field.specs.Field.{after_at, any_unit_paper, here, high, known, length_at, low, no_field, start, teletext_id, unit_answer, unit_at, wrong_length};
 ghost use Rattle.field.specs.Search.{found_paper, line_passes, offset_passes, searched, step};
-ghost use Rattle.field.specs.Private.{after_teletext, first_start, line_step, look_told, step_told};
+ghost use Rattle.field.specs.Private.{after_teletext, entry_told, line_step, look_told, start_told, step_told};
 
-// What stands at a place: a whole unit with its id, its length and the place after it, or the end of the field, or a refusal.
-#[derive(Drop)]
-pub enum AnyUnit {
-    Whole { id: u8, length: u8, after: usize },
-    End,
+use std::ops::ControlFlow;
+
+// A whole unit, with its id, its length and the place after it.
+#[derive(Clone, Copy)]
+pub struct WholeUnit {
+    pub id: u8,
+    pub length: u8,
+    pub after: usize,
+}
+
+// A packet that a search found, with its place, its field parity, its line offset and the place after its unit.
+#[derive(Clone, Copy)]
+pub struct Found {
+    pub packet: usize,
+    pub parity: u8,
+    pub offset: u8,
+    pub after: usize,
+}
+
+// Why a field is refused, at a place.
+#[derive(Clone, Copy, PartialEq, Eq)]
+pub enum FieldError {
     // 14
     NoField,
     // 17
@@ -20,41 +37,6 @@ pub enum AnyUnit {
     Short(usize),
     // 16, with the unit's place
     WrongLength(usize),
-}
-
-// What a search comes to: a packet, with its place, its field parity, its line offset and the place after its unit, or the end, or a refusal.
-#[derive(Drop)]
-pub enum Found {
-    Packet {
-        packet: usize,
-        parity: u8,
-        offset: u8,
-        after: usize,
-    },
-    NoMore,
-    // 14
-    NoField,
-    // 17
-    PastField,
-    // 15, with the unit's place
-    Short(usize),
-    // 16, with the unit's place
-    WrongLength(usize),
-}
-
-// Where a walk starts, or why it does not.
-#[derive(Drop)]
-enum First {
-    At(usize),
-    NoField,
-    PastField,
-}
-
-// What is made of one unit of a walk.
-#[derive(Drop)]
-enum Look {
-    Leave(Found),
-    GoOn(usize),
 }
 
 // The length of every unit under the identifiers 10 to 1F, and of every teletext unit.
@@ -108,23 +90,23 @@ fn is_wrong_length(identifier: u8, id: u8, length: u8) -> bool
     is_low(identifier) | is_high(identifier) & (is_teletext(id) | (id == 0xC0))
 }
 
-// 14, then 17, and place 0 as the first unit's.
-fn entry(field: &[u8], place: usize) -> First
-    ensures { first_start result ≡ start field.now place }
+// Where a walk starts: 14, then 17, and place 0 as the first unit's.
+fn entry(field: &[u8], place: usize) -> Result<usize, FieldError>
+    ensures { entry_told result ≡ start_told (start field.now place) }
 {
     if field.len() == 0 {
-        return First::NoField;
+        return Err(FieldError::NoField);
     }
     if !is_known(field[0]) {
-        return First::NoField;
+        return Err(FieldError::NoField);
     }
     if place > field.len() {
-        return First::PastField;
+        return Err(FieldError::PastField);
     }
     if place == 0 {
-        return First::At(1);
+        return Ok(1);
     }
-    First::At(place)
+    Ok(place)
 }
 
 fn length_at(field: &[u8], place: usize) -> u8
@@ -134,40 +116,37 @@ fn length_at(field: &[u8], place: usize) -> u8
     field[place + 1]
 }
 
-// The unit at a place of the field or at its end: 15, also where the length byte is missing, then 16. It is what is left of the field that is compared, so that no sum can wrap.
-fn unit_here(field: &[u8], place: usize) -> AnyUnit
+// The unit at a place of the field, or none at its end: 15, also where the length byte is missing, then 16. It is what is left of the field that is compared, so that no sum can wrap.
+fn unit_here(field: &[u8], place: usize) -> Result<Option<WholeUnit>, FieldError>
     requires { place ≤ length field.now }
     ensures { any_unit_paper result ≡ unit_answer field.now place (here field.now place) }
 {
     let left = field.len() - place;
     if left < HEAD {
         if left == 0 {
-            return AnyUnit::End;
+            return Ok(None);
         }
-        return AnyUnit::Short(place);
+        return Err(FieldError::Short(place));
     }
     let id = field[place];
     let length = length_at(field, place);
     let bytes = length as usize + HEAD;
     if left < bytes {
-        return AnyUnit::Short(place);
+        return Err(FieldError::Short(place));
     }
     if is_wrong_length(field[0], id, length) {
-        return AnyUnit::WrongLength(place);
+        return Err(FieldError::WrongLength(place));
     }
     let after = place + bytes;
-    AnyUnit::Whole { id, length, after }
+    Ok(Some(WholeUnit { id, length, after }))
 }
 
-// The unit at a place, of any id.
-pub fn unit_at(field: &[u8], place: usize) -> AnyUnit
+// The unit at a place, of any id, or none at the field's end.
+pub fn unit_at(field: &[u8], place: usize) -> Result<Option<WholeUnit>, FieldError>
     ensures { any_unit_paper result ≡ unit_at field.now place }
 {
-    match entry(field, place) {
-        First::At(first) => unit_here(field, first),
-        First::NoField => AnyUnit::NoField,
-        First::PastField => AnyUnit::PastField,
-    }
+    let first = entry(field, place)?;
+    unit_here(field, first)
 }
 
 // Whether the offset and the framing code of a whole teletext unit pass.
@@ -178,23 +157,26 @@ fn line_passes(field: &[u8], place: usize) -> bool
     offset_passes(field[place + LINE] % 32) & coding::framing_passes(field[place + FRAMING])
 }
 
+// What is made of one unit of a walk: the search's answer, or the place to go on at.
+type Look = ControlFlow<Result<Option<Found>, FieldError>, usize>;
+
 // A whole unit of a teletext id: its packet, or the next place where its line does not pass.
 fn look_at_line(field: &[u8], place: usize, next: usize) -> Look
     requires { (after_teletext place ≤ length field.now) × (next ≡ after_at field.now place) }
     ensures { look_told result ≡ step_told field.now (line_step field.now place) }
 {
     if !line_passes(field, place) {
-        return Look::GoOn(next);
+        return ControlFlow::Continue(next);
     }
     let line = field[place + LINE];
     let packet = place + PACKET;
-    let found = Found::Packet {
+    let found = Found {
         packet,
         parity: line / 32 % 2,
         offset: line % 32,
         after: next,
     };
-    Look::Leave(found)
+    ControlFlow::Break(Ok(Some(found)))
 }
 
 // One unit of a walk.
@@ -203,38 +185,27 @@ fn look_at(field: &[u8], place: usize) -> Look
     ensures { look_told result ≡ step_told field.now (step field.now place) }
 {
     match unit_here(field, place) {
-        AnyUnit::Whole {
-            id,
-            length: _,
-            after,
-        } => {
-            if is_teletext(id) {
-                look_at_line(field, place, after)
+        Ok(Some(unit)) => {
+            if is_teletext(unit.id) {
+                look_at_line(field, place, unit.after)
             } else {
-                Look::GoOn(after)
+                ControlFlow::Continue(unit.after)
             }
         }
-        AnyUnit::End => Look::Leave(Found::NoMore),
-        AnyUnit::NoField => Look::Leave(Found::NoField),
-        AnyUnit::PastField => Look::Leave(Found::PastField),
-        AnyUnit::Short(at) => Look::Leave(Found::Short(at)),
-        AnyUnit::WrongLength(at) => Look::Leave(Found::WrongLength(at)),
+        Ok(None) => ControlFlow::Break(Ok(None)),
+        Err(error) => ControlFlow::Break(Err(error)),
     }
 }
 
-// The first teletext unit from a place on.
-pub fn search(field: &[u8], place: usize) -> Found
+// The first teletext unit from a place on, or none.
+pub fn search(field: &[u8], place: usize) -> Result<Option<Found>, FieldError>
     ensures { found_paper result ≡ searched field.now place }
 {
-    let mut at = match entry(field, place) {
-        First::At(first) => first,
-        First::NoField => return Found::NoField,
-        First::PastField => return Found::PastField,
-    };
+    let mut at = entry(field, place)?;
     loop {
         match look_at(field, at) {
-            Look::Leave(found) => break found,
-            Look::GoOn(after) => at = after,
+            ControlFlow::Break(answer) => break answer,
+            ControlFlow::Continue(after) => at = after,
         }
     }
 }

@@ -1,12 +1,10 @@
 -- The words of a line: where English stands in and where it does not, and how long they are at most.
-use mathlib.Core.Path.{◌≡◌, sym, ◌∙◌, ap}
-use mathlib.Core.Bool.{Bool, true, false, cond}
+use Rattle.std.specs.Prelude.{Option, Some, None}
 use mathlib.Core.List.{List, [], ◌++◌}
 use Prim.Native.Nat.{ℕ, ◌^◌, ◌<◌, ◌≤◌}
 use native.Mathlib.Omega.{arith}
-use lib.ListN.{length, take, length-append}
+use lib.ListN.{length, length-append}
 use Rattle.laws.proofs.Keeps.{either}
-use Rattle.laws.proofs.Padded.{padded-text}
 use Rattle.letters.specs.Said.{stand_in_text}
 use Rattle.letters.specs.Sets.{stands_in}
 use Rattle.packet.specs.declared.Header.{Header}
@@ -14,35 +12,23 @@ use Rattle.tally.specs.Tally.{mended_text}
 use Rattle.tally.proofs.Tallying.{mended_length}
 use Rattle.watch.specs.declared.Word.{Word}
 use Rattle.watch.specs.declared.Word.TheVariants as word
-use Rattle.heading.specs.Line.{clean_text, comma, english_size, english_text, heading_text, line_held, line_size, line_text, word_size, word_text}
-use Rattle.heading.specs.declared.Line.{Line}
+use Rattle.heading.specs.Line.{clean_text, comma, english_size, english_text, heading_text, line_size, line_text, word_size, word_text}
 
 module _ (control : ℕ) where
-  by_answer : Bool → List ℕ
-  by_answer none = cond none (stand_in_text control ++ comma) []
-
-  pub stands : {none : Bool} → none ≡ true → none ≡ stands_in control → stand_in_text control ++ comma ≡ english_text control
-  unfolding english_text by_answer
-  stands e is = ap by_answer (sym e ∙ is)
-
-  pub not-needed : {none : Bool} → none ≡ false → none ≡ stands_in control → [] ≡ english_text control
-  unfolding english_text by_answer
-  not-needed e is = ap by_answer (sym e ∙ is)
-
   pub english_length : length (english_text control) ≤ english_size
   unfolding english_text
   english_length = either (λ (text : List ℕ). length text ≤ english_size) (stands_in control) (stand_in_text control ++ comma) [] (omega arith) (omega arith)
 
-  pub word-length : (which : Word) → length (word_text which control) ≤ word_size
+  pub word-length : (which : Option Word) → length (word_text which control) ≤ word_size
   unfolding word_text
-  word-length word.None = omega arith
-  word-length word.Clean = let more = english_length in omega (arith, length-append clean_text (english_text control))
-  word-length word.Doubt = omega arith
-  word-length word.Missing = omega arith
+  word-length None = omega arith
+  word-length (Some word.Clean) = let more = english_length in omega (arith, length-append clean_text (english_text control))
+  word-length (Some word.Doubt) = omega arith
+  word-length (Some word.Missing) = omega arith
 
 -- ---- the whole line, for those who lend it on
 
-module _ (which : Word) (magazine : ℕ) (header : Header) (mended : ℕ) where
+module _ (which : Option Word) (magazine : ℕ) (header : Header) (mended : ℕ) where
   pub line_length_law : mended < 2 ^ 64 → length (line_text which magazine header mended) ≤ line_size
   unfolding line_text heading_text
   line_length_law small =
@@ -52,12 +38,3 @@ module _ (which : Word) (magazine : ℕ) (header : Header) (mended : ℕ) where
       let behind = length-append words (mended_text mended) in
       let whole = length-append (heading_text magazine header) (words ++ mended_text mended) in
       omega arith
-
-  module _ {line : Line} (is : line ≡ line_held (line_text which magazine header mended)) where
-    pub line-is : take line.used line.bytes ≡ line_text which magazine header mended
-    unfolding line_held
-    line-is = ap (λ (l : Line). take l.used l.bytes) is ∙ padded-text line_size (line_text which magazine header mended)
-
-    pub line-counted : line.used ≡ length (take line.used line.bytes)
-    unfolding line_held
-    line-counted = ap (λ (l : Line). l.used) is ∙ sym (ap length line-is)

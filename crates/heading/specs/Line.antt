@@ -1,15 +1,15 @@
 -- The line that says what closed: the page and its time, the word, and how many bytes were mended in its own lines. By request 4 of document 02 it says of a clean page
 -- where English stands in; of a page in doubt nothing is printed, and so it says nothing of letters.
-use Rattle.std.specs.Prelude.{cond, List, [], ◌∷◌, ◌++◌, ℕ, ◌+◌, length}
-use Rattle.laws.specs.Text.{padded}
+use Rattle.std.specs.Prelude.{cond, List, [], ◌∷◌, ◌++◌, ℕ, ◌+◌, Option, Some, None, length}
 use Rattle.texts.specs.Decimal.{digit_text}
+use Rattle.texts.specs.Held.{held}
+use Rattle.texts.specs.declared.Text.{Text}
 use Rattle.tally.specs.Tally.{mended_size, mended_text}
 use Rattle.letters.specs.Said.{stand_in_size, stand_in_text}
 use Rattle.letters.specs.Sets.{stands_in}
 use Rattle.packet.specs.declared.Header.{Header}
 use Rattle.watch.specs.declared.Word.{Word}
 use Rattle.watch.specs.declared.Word.TheVariants as word
-use Rattle.heading.specs.declared.Line.{Line}
 
 -- "page 100 at 12:34:"
 unfoldable pub heading_text : ℕ → Header → List ℕ
@@ -43,15 +43,15 @@ unfolding stands_in stand_in_text
 english_text control = cond (stands_in control) (stand_in_text control ++ comma) []
 
 -- where no page closed there is no word, and no line is said (`announcing/specs/Told.antt`, `page_said`)
-unfoldable pub word_text : Word → ℕ → List ℕ
+unfoldable pub word_text : Option Word → ℕ → List ℕ
 unfolding english_text
-word_text word.None control = []
-word_text word.Clean control = clean_text ++ english_text control
-word_text word.Doubt control = doubt_text
-word_text word.Missing control = missing_text
+word_text None control = []
+word_text (Some word.Clean) control = clean_text ++ english_text control
+word_text (Some word.Doubt) control = doubt_text
+word_text (Some word.Missing) control = missing_text
 
 -- "page 100 at 12:34: clean, 3 bytes mended"
-unfoldable pub line_text : Word → ℕ → Header → ℕ → List ℕ
+unfoldable pub line_text : Option Word → ℕ → Header → ℕ → List ℕ
 unfolding heading_text word_text mended_text
 line_text which magazine header mended = heading_text magazine header ++ (word_text which header.control ++ mended_text mended)
 
@@ -70,5 +70,5 @@ word_size = length clean_text + english_size
 abbrev pub line_size : ℕ
 line_size = heading_size + word_size + mended_size
 
-unfoldable pub line_held : List ℕ → Line
-line_held text = record { bytes = padded line_size text; used = length text }
+abbrev pub line_held : List ℕ → Text line_size
+line_held text = held line_size text

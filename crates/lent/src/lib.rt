@@ -5,19 +5,18 @@
 ghost use Rattle.receiver.specs.Entries.{Meets, line_entered};
 ghost use Rattle.lent.specs.Lent.{together};
 
-use receiver::{Answer, Receiver, Stepped};
+use receiver::{Receiver, Refusal, Stepped, Taken};
 
 // A data-line of 45 bytes, for a receiver that is lent.
-pub fn take_line(receiver: &mut Receiver, line: &[u8], record: &mut [u8]) -> Answer
+pub fn take_line(receiver: &mut Receiver, line: &[u8], record: &mut [u8]) -> Result<Taken, Refusal>
     ensures { Meets (line_entered receiver.old line.now «record».old) (together receiver.new result) «record».new }
 {
-    let state = *receiver;
-    let stepped = receiver::take_line(state, line, record);
+    let stepped = receiver::take_line(*receiver, line, record);
     *receiver = stepped.receiver;
     stepped.answer
 }
 
-// The same for a caller that has the receiver by value, by way of the lent entry: such a caller cannot lend a local of its own and be checked.
+// The same for a caller that has the receiver by value, by way of the lent entry: so the gate's programs hold the two entries to one another.
 pub fn take_line_through(receiver: Receiver, line: &[u8], record: &mut [u8]) -> Stepped
     ensures { Meets (line_entered receiver line.now «record».old) result «record».new }
 {

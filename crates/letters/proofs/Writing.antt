@@ -1,6 +1,6 @@
 -- The form of a letter by how many bytes it has, and texts of letters.
 use mathlib.Core.Path.{◌≡◌, refl, sym, ◌∙◌, ap}
-use mathlib.Core.Bool.{true, false}
+use mathlib.Core.Bool.{true}
 use mathlib.Core.List.{List, [], ◌∷◌, ◌++◌, append_assoc, append-nil}
 use Prim.Native.Nat.{ℕ, ◌+◌, ◌/◌, ◌<◌, ◌≤◌}
 use native.Mathlib.Omega.{arith}
@@ -18,10 +18,6 @@ unfolding is_letter
 at_most_last number e = leb-true number last_letter (both_true _ _ e).0
 
 module _ (letter : ℕ) where
-  pub of_none : is_letter letter ≡ false → utf8 letter ≡ []
-  unfolding utf8
-  of_none e = rw e
-
   pub of_one : letter < least_of_two → utf8 letter ≡ letter ∷ []
   unfolding utf8
   of_one h = rw (is_letter_below letter (omega arith), lt-ltb letter least_of_two h)

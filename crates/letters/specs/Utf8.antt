@@ -2,8 +2,8 @@
 -- is a letter and long enough for so many bytes. It refuses overlong forms, surrogates, numbers past 10FFFF, stray bytes and missing ones.
 use Rattle.std.specs.Prelude.{Bool, not, cond, ◌&&◌, List, [], ◌∷◌, ◌++◌, ℕ, zero, suc, ◌+◌, ◌-◌, ◌*◌, ◌/◌, ◌%◌, leb, ltb, length}
 use Rattle.std.proofs.Math.Option.{Option, none, some}
-use Rattle.laws.specs.Text.{padded}
-use Rattle.letters.specs.declared.Form.{Form}
+use Rattle.texts.specs.declared.Text.{Text}
+use Rattle.texts.specs.Held.{held}
 
 -- ---- letters
 
@@ -118,5 +118,5 @@ most_bytes = 4
 abbrev pub most_of_letters : ℕ
 most_of_letters = 3
 
-unfoldable pub form_held : List ℕ → Form
-form_held form = record { bytes = padded most_bytes form; used = length form }
+abbrev pub form_held : List ℕ → Text most_bytes
+form_held form = held most_bytes form

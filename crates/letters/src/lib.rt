@@ -16,10 +16,3 @@ pub const MOST_BYTES: usize = 4;
 
 // No letter of a set has more.
 pub const MOST_OF_LETTERS: usize = 3;
-
-// The UTF-8 form of a letter: the first `used` bytes, and zeros past them.
-#[derive(Drop)]
-pub struct Form {
-    pub bytes: [u8; MOST_BYTES],
-    pub used: usize,
-}

@@ -6,7 +6,7 @@ pub(crate) const SETS: usize = 7;
 
 pub const POSITIONS: usize = 13;
 
-pub(crate) const LETTERS: [[u32; POSITIONS]; SETS] = [
+pub(crate) static LETTERS: [[u32; POSITIONS]; SETS] = [
     // 0: English
     [
         0xA3, // English 23 £

@@ -1,29 +1,30 @@
 -- The whole listing: its bound is always enough, so that it is the line of a place and then the listing from where that line goes on. Whoever hands on
 -- the line of each place, one after the other, hands on the listing, and comes to its end.
+use Rattle.std.specs.Prelude.{Some, None, Result, Ok, Err}
+use Rattle.std.specs.Prelude as std
 use mathlib.Core.Path.{◌≡◌, refl, sym, ◌∙◌, ap}
 use mathlib.Core.Bool.{Bool, true, false, cond}
 use mathlib.Core.List.{List, [], ◌++◌, append-nil}
 use mathlib.Core.Option.{Option, none, some}
-use Prim.Native.Nat.{ℕ, zero, suc, ◌+◌, ◌-◌, ◌<◌, ◌≤◌}
+use Prim.Native.Nat.{ℕ, zero, suc, ◌+◌, ◌<◌, ◌≤◌}
 use native.Mathlib.Omega.{arith}
 use borrow.Author.Tests.{ne_eqb}
 use lib.Dec.{ltb}
-use lib.ListN.{length, take, drop, replicate, length-append}
+use lib.ListN.{length, take, drop, length-append}
 use lib.Seq.{take-append_seam, drop-append_seam, drop-drop}
 use Rattle.laws.proofs.Inverse.{never}
 use Rattle.laws.specs.Paper.{Paper, accepted, refused_by}
-use Rattle.field.specs.Field.{head_length, asked, unit_at, any_unit_paper}
-use Rattle.field.specs.declared.AnyUnit.{AnyUnit}
-use Rattle.field.specs.declared.AnyUnit.TheVariants.{Whole, End, NoField, PastField, Short, WrongLength}
+use Rattle.field.specs.Field.{head_length, asked, unit_at, any_unit_paper, error_paper}
+use Rattle.field.specs.declared.FieldError.{FieldError}
+use Rattle.field.specs.declared.FieldError.TheVariants.{NoField, PastField, Short, WrongLength}
+use Rattle.field.specs.declared.WholeUnit.{WholeUnit}
 use Rattle.field.proofs.Steps.{unit-further}
 use Rattle.field.proofs.Units.{Answered, answered}
 use Rattle.listing.specs.Lines.{Told, last, taken, numbered, told, most, too_long_text, line_at, following, lines, listed_from, listed}
 use Rattle.listing.specs.Held.{room, line_of, Held, held, next_paper, listed_paper}
-use Rattle.listing.specs.Private.{text_of}
-use Rattle.listing.specs.declared.Line.{Line}
+use Rattle.texts.specs.Held.{text_of}
+use Rattle.texts.proofs.Held.{held_text, held_used}
 use Rattle.listing.specs.declared.Listed.{Listed}
-use Rattle.listing.specs.declared.Next.{Next}
-use Rattle.listing.proofs.Held.{holds}
 
 -- ---- a line that goes on
 
@@ -38,19 +39,19 @@ not_before zero = omega arith
 not_before (suc place) = rw (ne_eqb (suc place) 0 (λ e. omega arith)) (omega arith)
 
 module _ (input : List ℕ) (place after : ℕ) where
-  case-onward : (case : AnyUnit) → unit_at input place ≡ any_unit_paper case
+  case-onward : (case : Result (std.Option WholeUnit) FieldError) → unit_at input place ≡ any_unit_paper case
       → (told (length input) (asked place) (any_unit_paper case)).next ≡ some after → Onward input place after
-  unfolding told numbered taken last any_unit_paper accepted refused_by
-  case-onward (Whole id size next) is e =
-      let far = unit-further input place id size next is in
-      let same : next ≡ after = cc in
+  unfolding told numbered taken last any_unit_paper error_paper accepted refused_by
+  case-onward (Ok (Some unit)) is e =
+      let far = unit-further input place unit.id unit.length unit.after is in
+      let same : unit.after ≡ after = cc in
       let here_or_on = not_before place in
       record { further = omega arith; within = omega arith }
-  case-onward End is e = absurd (never (cc))
-  case-onward NoField is e = absurd (never (cc))
-  case-onward PastField is e = absurd (never (cc))
-  case-onward (Short at) is e = absurd (never (cc))
-  case-onward (WrongLength at) is e = absurd (never (cc))
+  case-onward (Ok None) is e = absurd (never (cc))
+  case-onward (Err NoField) is e = absurd (never (cc))
+  case-onward (Err PastField) is e = absurd (never (cc))
+  case-onward (Err (Short at)) is e = absurd (never (cc))
+  case-onward (Err (WrongLength at)) is e = absurd (never (cc))
 
   by_answer : Answered (unit_at input place) → (told (length input) (asked place) (unit_at input place)).next ≡ some after → Onward input place after
   by_answer a e =
@@ -157,20 +158,11 @@ module _ (answer : Listed) (step : Told) (is : listed_paper answer ≡ held step
   line-is = ap (λ (h : Held). h.line) is
 
   pub used_is : answer.line.used ≡ length step.text
-  unfolding line_of
-  used_is = ap (λ (l : Line). l.used) line-is
+  used_is = held_used room step.text line-is
 
-  pub text-is : take answer.line.used answer.line.bytes ≡ step.text
-  unfolding text_of
-  text-is = holds step.text line-is
+  pub text-is : text_of answer.line ≡ step.text
+  text-is = held_text room step.text line-is
 
-  pub used-inside : answer.line.used ≤ length answer.line.bytes
-  unfolding line_of
-  used-inside =
-      let bytes = ap (λ (l : Line). length l.bytes) line-is ∙ length-append step.text (replicate (room - length step.text) 0) in
-      let used = used_is in
-      omega arith
-
-  pub next-at : {next : Next} → answer.next ≡ next → step.next ≡ next_paper next
+  pub next-at : {next : std.Option ℕ} → answer.next ≡ next → step.next ≡ next_paper next
   unfolding listed_paper held
   next-at e = sym (ap (λ (h : Held). h.next) is) ∙ ap next_paper e

@@ -1,127 +1,89 @@
 // The lines of the unit lister: the text of what stands at a place of a data field, and the place at which the listing goes on.
 #![tactic(auto)]
 
-ghost use Rattle.std.specs.Prelude.{[], ◌∷◌, ◌++◌, ◌≡◌, ◌≤◌, length};
+ghost use Rattle.std.specs.Prelude.{[], ◌∷◌, ◌++◌, ◌≡◌, ◌≤◌};
 ghost use Rattle.texts.specs.Decimal.{decimal};
 ghost use Rattle.field.specs.Field.{asked};
 ghost use Rattle.listing.specs.Lines.{refused_word, unit_text, end_text, refused_text, too_long_text, line_at};
 ghost use Rattle.listing.specs.Held.{line_of, room, held, listed_paper};
-ghost use Rattle.listing.specs.Private.{text_of, Ready, Written, stopped};
+ghost use Rattle.listing.specs.Private.{Written, stopped};
 
-use field::AnyUnit;
+use field::FieldError;
+use texts::Text;
 
 // The longest field that is listed.
 pub const MOST: usize = 65536;
 
-// Room for any line: three numbers of twenty digits, and what stands between them.
+// Room for any line with its line feed: three numbers of twenty digits, and what stands between them.
 pub const ROOM: usize = 64;
 
-// A line of text with its line feed: the first `used` bytes, and zeros past them.
+// A line, and where the listing goes on.
 #[derive(Clone, Copy)]
-pub struct Line {
-    pub bytes: [u8; ROOM],
-    pub used: usize,
-}
-
-// Where the listing goes on.
-#[derive(Drop)]
-pub enum Next {
-    At(usize),
-    Stop,
-}
-
-#[derive(Drop)]
 pub struct Listed {
-    pub line: Line,
-    pub next: Next,
+    pub line: Text<ROOM>,
+    pub next: Option<usize>,
 }
 
-fn blank() -> Line
-    ensures { result ≡ line_of [] }
-{
-    Line {
-        bytes: [0; ROOM],
-        used: 0,
-    }
-}
-
-fn put(line: Line, byte: u8) -> Line
-    requires { Ready line 1 }
-    ensures { result ≡ line_of (text_of line ++ (byte ∷ [])) }
-{
-    let mut bytes = line.bytes;
-    let at = line.used;
-    bytes[at] = byte;
-    Line {
-        bytes,
-        used: at + 1,
-    }
-}
-
-fn put_text(line: Line, text: &[u8]) -> Line
-    requires { Ready line (length text.now) }
-    ensures { result ≡ line_of (text_of line ++ text.now) }
-{
-    let mut longer = line;
-    let mut i = 0;
-    while i < text.len() {
-        longer = put(longer, text[i]);
-        i += 1;
-    }
-    longer
-}
-
-fn put_decimal(line: Line, number: usize) -> Line
-    requires { Ready line (length (decimal number)) }
-    ensures { result ≡ line_of (text_of line ++ decimal number) }
-{
-    let digits = texts::digits_of(number as u64);
-    let bytes = digits.bytes;
-    put_text(line, &bytes[..digits.used])
-}
-
-fn unit_line(place: usize, id: u8, length: u8) -> Line
+fn unit_line(place: usize, id: u8, length: u8) -> Text<ROOM>
     ensures { Written result (unit_text place id length) }
 {
-    let with_place = put(put_decimal(blank(), place), b' ');
-    let with_id = put(put_decimal(with_place, id as usize), b' ');
-    put(put_decimal(with_id, length as usize), b'\n')
+    let mut line = Text::new();
+    line.put_decimal(place as u64);
+    line.put(b" ");
+    line.put_decimal(id as u64);
+    line.put(b" ");
+    line.put_decimal(length as u64);
+    line.put(b"\n");
+    line
 }
 
-fn end_line(size: usize) -> Line
+fn end_line(size: usize) -> Text<ROOM>
     ensures { Written result (end_text size) }
 {
-    put(put_decimal(put_text(blank(), b"end "), size), b'\n')
+    let mut line = Text::new();
+    line.put(b"end ");
+    line.put_decimal(size as u64);
+    line.put(b"\n");
+    line
 }
 
-fn refused_start(number: usize) -> Line
+fn refused_start(number: u64) -> Text<ROOM>
     ensures { result ≡ line_of (refused_word ++ decimal number) }
 {
-    put_decimal(put_text(blank(), b"refused "), number)
+    let mut line = Text::new();
+    line.put(b"refused ");
+    line.put_decimal(number);
+    line
 }
 
-fn refused_line(number: usize) -> Line
+fn refused_line(number: u64) -> Text<ROOM>
     ensures { Written result (refused_text number []) }
 {
-    put(refused_start(number), b'\n')
+    let mut line = refused_start(number);
+    line.put(b"\n");
+    line
 }
 
-fn refused_at_line(number: usize, place: usize) -> Line
-    ensures { Written result (refused_text number (place ∷ [])) }
+fn refused_at_line(number: u64, at: usize) -> Text<ROOM>
+    ensures { Written result (refused_text number (at ∷ [])) }
 {
-    put(
-        put_decimal(put_text(refused_start(number), b" at "), place),
-        b'\n',
-    )
+    let mut line = refused_start(number);
+    line.put(b" at ");
+    line.put_decimal(at as u64);
+    line.put(b"\n");
+    line
 }
 
-fn too_long_line() -> Line
+fn too_long_line() -> Text<ROOM>
     ensures { Written result too_long_text }
 {
-    put_text(blank(), b"too long\n")
+    let mut line = Text::new();
+    line.put(b"too long\n");
+    line
 }
 
 // Place 0 is the first unit's.
+#[tactic(auto, unfolding(field::specs::Field::asked))]
 fn unit_place(place: usize) -> usize
     ensures { result ≡ asked place }
 {
@@ -132,16 +94,13 @@ fn unit_place(place: usize) -> usize
 }
 
 // A line after which nothing is listed.
-fn last_line(line: Line) -> Listed
+fn last_line(line: Text<ROOM>) -> Listed
     ensures { result ≡ stopped line }
 {
-    Listed {
-        line,
-        next: Next::Stop,
-    }
+    Listed { line, next: None }
 }
 
-// The line of what stands at a place of a field. The second promise is for callers: a line is never longer than its room.
+// The line of what stands at a place of a field. Each refusal has its own line, with a place or without, so its number stands where the line is made. The second promise is for callers: a line is never longer than its room.
 pub fn line_at(field: &[u8], place: usize) -> Listed
     ensures result_value { listed_paper result ≡ held (line_at field.now place) }
     ensures used_le_room { result.line.used ≤ room }
@@ -150,17 +109,14 @@ pub fn line_at(field: &[u8], place: usize) -> Listed
         return last_line(too_long_line());
     }
     match field::unit_at(field, place) {
-        AnyUnit::Whole { id, length, after } => {
-            let line = unit_line(unit_place(place), id, length);
-            Listed {
-                line,
-                next: Next::At(after),
-            }
-        }
-        AnyUnit::End => last_line(end_line(field.len())),
-        AnyUnit::NoField => last_line(refused_line(14)),
-        AnyUnit::PastField => last_line(refused_line(17)),
-        AnyUnit::Short(at) => last_line(refused_at_line(15, at)),
-        AnyUnit::WrongLength(at) => last_line(refused_at_line(16, at)),
+        Ok(Some(unit)) => Listed {
+            line: unit_line(unit_place(place), unit.id, unit.length),
+            next: Some(unit.after),
+        },
+        Ok(None) => last_line(end_line(field.len())),
+        Err(FieldError::NoField) => last_line(refused_line(14)),
+        Err(FieldError::PastField) => last_line(refused_line(17)),
+        Err(FieldError::Short(at)) => last_line(refused_at_line(15, at)),
+        Err(FieldError::WrongLength(at)) => last_line(refused_at_line(16, at)),
     }
 }

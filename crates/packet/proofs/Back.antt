@@ -9,6 +9,7 @@ use native.Mathlib.Omega.{arith}
 use borrow.Author.Tests.{eq-eqb, eqb-false}
 use lib.Dec.{T, eqb, eqb→eq}
 use lib.ListN.{length}
+use Rattle.std.specs.Prelude.{Ok}
 use Rattle.laws.specs.Digits.{binary, bit}
 use Rattle.laws.specs.Fields.{digits}
 use Rattle.laws.proofs.Digits.{binary_digits}
@@ -31,7 +32,6 @@ use Rattle.packet.specs.Texts.{header_column}
 use Rattle.packet.specs.Writing.{address_bytes, character_byte, control_messages, header_bytes, message_byte}
 use Rattle.packet.specs.declared.Address.TheVariants.{Whole}
 use Rattle.packet.specs.declared.Header.{Header}
-use Rattle.packet.specs.declared.HeaderRead.TheVariants.{Good}
 use Rattle.packet.proofs.Good.{header_is}
 
 -- ---- a byte, turned
@@ -111,14 +111,14 @@ module _ (magazine row : ℕ) (rest : List ℕ) (whole : length rest ≡ columns
   unfolding packet_byte address_bytes
   second_back = message_back (row / 2)
 
-  pub address_back : address_of addressed ≡ Whole (magazine_of magazine) (row % 32)
+  pub address_back : address_of addressed ≡ Ok (Whole (magazine_of magazine) (row % 32))
   unfolding address_of
   address_back =
-      rw (eq-eqb _ _ addressed-length, first_back, second_back) (λ i. Whole (magazine_back magazine row i) (row_back magazine row i))
+      rw (eq-eqb _ _ addressed-length, first_back, second_back) (λ i. Ok (Whole (magazine_back magazine row i) (row_back magazine row i)))
 
   -- where they fit, as they were given
-  pub address_same : 1 ≤ magazine → magazine ≤ 8 → row < 32 → address_of addressed ≡ Whole magazine row
-  address_same low high small = address_back ∙ (λ i. Whole (magazine_same magazine low high i) (mod-eq_of_lt small i))
+  pub address_same : 1 ≤ magazine → magazine ≤ 8 → row < 32 → address_of addressed ≡ Ok (Whole magazine row)
+  address_same low high small = address_back ∙ (λ i. Ok (Whole (magazine_same magazine low high i) (mod-eq_of_lt small i)))
 
 -- ---- the header
 
@@ -215,13 +215,13 @@ module _ (magazine : ℕ) (header : Header) (rest : List ℕ) (whole : length re
   unfolding packet_bytes header_bytes
   control-bytes = messages_turned (control_messages header)
 
-  pub header_back : header_of headed ≡ Good (in_bits header)
+  pub header_back : header_of headed ≡ Ok (in_bits header)
   unfolding header_messages header_or
   header_back =
       header_is headed headed-length
       (ap (λ (bytes : List ℕ). all_good (map message bytes)) control-bytes
       ∙ (ap all_good (messages_read (control_messages header)) ∙ all_there cut (control_messages header)))
-      ∙ ap Good (header-from header)
+      ∙ ap Ok (header-from header)
 
 -- a header whose parts fit their bits is sent as it is
 module _ (header : Header) (tens : header.tens < 16) (units : header.units < 16) (hours-tens : header.hours_tens < 4)
@@ -241,5 +241,5 @@ module _ (header : Header) (tens : header.tens < 16) (units : header.units < 16)
         control = mod-eq_of_lt control i;
       }
 
-  pub header-same : (magazine : ℕ) (rest : List ℕ) → length rest ≡ columns - header_column → header_of (header_bytes magazine header ++ rest) ≡ Good header
-  header-same magazine rest whole = header_back magazine header rest whole ∙ ap Good bits-same
+  pub header-same : (magazine : ℕ) (rest : List ℕ) → length rest ≡ columns - header_column → header_of (header_bytes magazine header ++ rest) ≡ Ok header
+  header-same magazine rest whole = header_back magazine header rest whole ∙ ap Ok bits-same

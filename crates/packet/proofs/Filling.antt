@@ -1,10 +1,10 @@
 -- An array that is filled from a place on, element by element: it is pasted over with a list, or with what a function gives of each element of one.
 use mathlib.Core.Path.{◌≡◌, sym, ap, ◌∙◌}
-use mathlib.Core.List.{List, ◌∷◌, ◌++◌, map, append-nil}
+use mathlib.Core.List.{List, ◌++◌, map, append-nil}
 use Prim.Native.Nat.{ℕ, ◌+◌, ◌<◌}
 use native.Mathlib.Numerals.{add-one}
 use native.Mathlib.Omega.{arith}
-use lib.ListN.{length, get_or, set, take, length-map, drop_of_length-le, replicate}
+use lib.ListN.{length, get_or, set, take, length-map, length-append, length-replicate, drop_of_length-le, replicate}
 use lib.Seq.{paste, paste-suc, take_all}
 use Rattle.laws.proofs.Lists.{get_d_map}
 
@@ -32,10 +32,9 @@ module _ (f : ℕ → ℕ) (before : List ℕ) (place : ℕ) (from : List ℕ) w
 
 -- ---- behind an address
 
--- so many zeros, and an address stored at their start
-abbrev pub started : ℕ → List ℕ → List ℕ
-started size address = set (set (replicate size 0) 0 (get_or address 0 0)) 1 (get_or address 1 0)
+-- an address, and so many zeros behind it
+abbrev pub started : List ℕ → ℕ → List ℕ
+started address size = address ++ replicate size 0
 
--- some bytes behind an address
-abbrev pub behind : List ℕ → List ℕ → List ℕ
-behind address bytes = get_or address 0 0 ∷ get_or address 1 0 ∷ bytes
+pub started-length : (address : List ℕ) (size : ℕ) → length (started address size) ≡ length address + size
+started-length address size = omega (arith, length-append address (replicate size 0), length-replicate {A = ℕ} size 0)

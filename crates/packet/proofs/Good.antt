@@ -1,8 +1,7 @@
 -- All of some messages, seen one by one.
-use mathlib.Core.Path.{◌≡◌, refl, ap, ◌∙◌, sym}
+use mathlib.Core.Path.{◌≡◌, refl, ap, ◌∙◌}
 use mathlib.Core.List.{List, [], ◌∷◌}
 use mathlib.Core.Logic.{◌⊎◌, inl, inr, ⊎_elim}
-use mathlib.Core.Bool.{true, false}
 use mathlib.Core.Option.{Option, none, some}
 use Prim.Native.Nat.{ℕ, zero, suc, ◌+◌, ◌<◌}
 use native.Mathlib.Nat.{le_of_suc-le-suc, not-suc-le-zero, zero-lt-suc}
@@ -13,8 +12,6 @@ use Rattle.laws.proofs.Lists.{get_d_map}
 use Rattle.coding.specs.Bits.{turned_byte}
 use Rattle.coding.specs.Hamming.{message}
 use Rattle.packet.specs.Lines.{packet_length}
-use Rattle.packet.specs.Private.{eight_of}
-use Rattle.packet.specs.declared.Eight.{Eight}
 use Rattle.packet.proofs.Bytes.{length_bytes, byte_at}
 use Rattle.packet.specs.Headers.{all_good, before, control_bytes, header_messages, header_of, header_or}
 
@@ -89,14 +86,3 @@ module _ (packet : List ℕ) (whole : length packet ≡ packet_length) where
   pub header_is : {o : Option (List ℕ)} → all_good (header_messages packet) ≡ o → header_of packet ≡ header_or o
   unfolding header_of
   header_is e = rw (eq-eqb _ _ whole, e)
-
--- ---- the code's answer
-
-module _ (eight : Eight) {o : Option (List ℕ)} (e : eight_of eight ≡ o) where
-  pub eight-spoiled : eight.good ≡ false → o ≡ none
-  unfolding eight_of
-  eight-spoiled g = sym e ∙ rw g
-
-  pub eight-good : eight.good ≡ true → o ≡ some eight.messages
-  unfolding eight_of
-  eight-good g = sym e ∙ rw g

@@ -7,6 +7,7 @@ use native.Mathlib.Omega.{arith}
 use borrow.Author.Tests.{eq-eqb}
 use lib.ListN.{length, take, drop, length-drop, length-map}
 use lib.Seq.{take_all}
+use Rattle.std.specs.Prelude.{Ok}
 use Rattle.laws.proofs.Maps.{mapped_twice}
 use Rattle.coding.specs.Bits.{turned_byte}
 use Rattle.coding.specs.Characters.{character}
@@ -17,13 +18,10 @@ use Rattle.packet.specs.Back.{ReadsBack, in_bits}
 use Rattle.packet.specs.Headers.{header_of}
 use Rattle.packet.specs.Lines.{framed, line_length, packet_bytes, packet_length, packet_of, packet_part}
 use Rattle.packet.specs.Sent.{line_packet}
-use Rattle.packet.specs.Texts.{column_bytes, header_column, header_text_bytes, text_of}
+use Rattle.packet.specs.Texts.{Text, column_bytes, header_column, header_text_bytes, text_of}
 use Rattle.packet.specs.Writing.{character_byte, control_messages, data_line, header_bytes, header_packet, message_byte, row_packet}
 use Rattle.packet.specs.declared.Address.TheVariants.{Whole}
-use Rattle.packet.specs.declared.Framed.TheVariants.{Packet}
 use Rattle.packet.specs.declared.Header.{Header}
-use Rattle.packet.specs.declared.HeaderRead.TheVariants.{Good}
-use Rattle.packet.specs.declared.Text.{Text}
 use Rattle.packet.proofs.Back.{address_back, addressed-length, character_back, characters_turned, headed-length, header_back, message_back, sent_for}
 use Rattle.packet.proofs.Whole.{whole_text}
 
@@ -39,7 +37,7 @@ module _ (magazine row : ℕ) (characters : List ℕ) (whole : length characters
   unfolding row_packet
   row-packet-length = addressed-length magazine row (map character_byte characters) (length-map characters character_byte ∙ whole)
 
-  pub row-address : address_of (row_packet magazine row characters) ≡ Whole (magazine_of magazine) (row % 32)
+  pub row-address : address_of (row_packet magazine row characters) ≡ Ok (Whole (magazine_of magazine) (row % 32))
   unfolding row_packet
   row-address = address_back magazine row (map character_byte characters) (length-map characters character_byte ∙ whole)
 
@@ -59,13 +57,13 @@ module _ (magazine : ℕ) (header : Header) (characters : List ℕ) (whole : len
   unfolding header_packet
   header-packet-length = headed-length magazine header (map character_byte (drop header_column characters)) after-header
 
-  pub header-address : address_of (header_packet magazine header characters) ≡ Whole (magazine_of magazine) 0
+  pub header-address : address_of (header_packet magazine header characters) ≡ Ok (Whole (magazine_of magazine) 0)
   unfolding header_packet header_bytes
   header-address =
       address_back magazine 0 (map message_byte (control_messages header) ++ map character_byte (drop header_column characters))
       (omega (arith, after-header))
 
-  pub header_read : header_of (header_packet magazine header characters) ≡ Good (in_bits header)
+  pub header_read : header_of (header_packet magazine header characters) ≡ Ok (in_bits header)
   unfolding header_packet
   header_read = header_back magazine header (map character_byte (drop header_column characters)) after-header
 
@@ -85,7 +83,7 @@ module _ (packet : List ℕ) (whole : length packet ≡ packet_length) where
   unfolding data_line
   line_length_law = omega (arith, whole)
 
-  pub line-framed : framed (data_line packet) ≡ Packet
+  pub line-framed : framed (data_line packet) ≡ Ok tt
   unfolding framed data_line
   line-framed = rw (eq-eqb _ _ line_length_law)
 

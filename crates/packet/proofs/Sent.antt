@@ -9,6 +9,7 @@ use native.Mathlib.Omega.{arith}
 use borrow.Author.Tests.{eq-eqb, ne_eqb, le-leb}
 use lib.Dec.{T, eqb, leb, eqb→eq, leb→le, lit<}
 use lib.ListN.{length, get_or, length-map}
+use Rattle.std.specs.Prelude.{Ok, Err}
 use Rattle.laws.specs.Every.{every, every_pair}
 use Rattle.laws.proofs.Bools.{passed, five, both_left, both_right}
 use Rattle.laws.proofs.Every.{every_at, every_pair_at}
@@ -26,8 +27,7 @@ use Rattle.packet.specs.Sent.{line_packet, sent_first, sent_second, sent_magazin
 use Rattle.packet.specs.Sent.{is_byte, exact_byte, odd_byte, row_by_rules, sent_by_rules, near, none_or_odd, row_damage, damage}
 use Rattle.packet.specs.Texts.{column_bytes, header_column, header_text_bytes}
 use Rattle.packet.specs.declared.Address.TheVariants.{Whole}
-use Rattle.packet.specs.declared.Framed.TheVariants.{Packet}
-use Rattle.packet.specs.declared.HeaderRead.TheVariants.{Good, Spoiled}
+use Rattle.packet.specs.declared.HeaderError.TheVariants.{Spoiled}
 use Rattle.packet.proofs.Bytes.{byte_at, length_bytes}
 use Rattle.packet.proofs.Good.{header-good, header_is, header-or-spoiled}
 
@@ -109,7 +109,7 @@ framing_near a b e t = rw (eqb→eq a framing_code e) at t
 
 module _ (d : ℕ) (s r : List ℕ) (sent : T (sent_by_rules s)) (damaged : T (damage d s r)) where
   -- no line within the damage is refused
-  pub delivered : framed r ≡ Packet
+  pub delivered : framed r ≡ Ok tt
   unfolding framed
   delivered =
       let near-code : T (framing_passes (get_or r framing_place 0)) = framing_near (get_or s framing_place 0) (get_or r framing_place 0) (sent-parts s sent).2 (damage-parts d s r damaged).2 in
@@ -149,14 +149,14 @@ module _ (d : ℕ) (s r : List ℕ) (sent : T (sent_by_rules s)) (damaged : T (d
   second-two h = let b = address-byte 1 (lit< tt) in read-two d _ _ b.0 b.1 h
 
   -- the address is what its two messages show
-  pub address-shown : address_of (line_packet r) ≡ shown (message (packet_byte (line_packet r) 1)) (message (packet_byte (line_packet r) 2))
+  pub address-shown : address_of (line_packet r) ≡ Ok (shown (message (packet_byte (line_packet r) 1)) (message (packet_byte (line_packet r) 2)))
   unfolding address_of
   address-shown = rw (eq-eqb _ _ (received-packet d s r damaged))
 
   -- and within one bit it is the one that was sent
-  pub address-one : d ≤ 1 → address_of (line_packet r) ≡ Whole (sent_magazine s) (sent_row s)
+  pub address-one : d ≤ 1 → address_of (line_packet r) ≡ Ok (Whole (sent_magazine s) (sent_row s))
   unfolding shown sent_magazine sent_row
-  address-one h = address-shown ∙ (ap (λ (o : Option ℕ). shown o (message (packet_byte (line_packet r) 2))) (first_one h) ∙ ap (shown (some (sent_first s))) (second-one h))
+  address-one h = address-shown ∙ (λ i. Ok (shown (first_one h i) (second-one h i)))
 
 -- ---- headers
 
@@ -207,7 +207,7 @@ module _ (d : ℕ) (s r : List ℕ) (sent : T (sent_by_rules s)) (damaged : T (d
       )
 
   -- within one bit the header is the one that was sent
-  pub header-one : d ≤ 1 → header_of (line_packet r) ≡ Good (sent_header s)
+  pub header-one : d ≤ 1 → header_of (line_packet r) ≡ Ok (sent_header s)
   unfolding header_or sent_header sent_messages
   header-one h =
       header_is (line_packet r) (received-packet d s r damaged)
@@ -215,7 +215,7 @@ module _ (d : ℕ) (s r : List ℕ) (sent : T (sent_by_rules s)) (damaged : T (d
       (λ k below. read_one d _ _ (control-byte k below).0 (control-byte k below).1 h ∙ ap {B = Option ℕ} some (sym (sent-message k below))))
 
   -- within two it is that, or spoiled
-  pub header-two : d ≤ 2 → (header_of (line_packet r) ≡ Good (sent_header s)) ⊎ (header_of (line_packet r) ≡ Spoiled)
+  pub header-two : d ≤ 2 → (header_of (line_packet r) ≡ Ok (sent_header s)) ⊎ (header_of (line_packet r) ≡ Err Spoiled)
   unfolding header_or sent_header sent_messages
   header-two h =
       ⊎_elim (λ good. inl (header_is (line_packet r) (received-packet d s r damaged) good))

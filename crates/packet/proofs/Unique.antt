@@ -4,7 +4,7 @@ use contract.Lifetimes.{Lfts}
 use denote.Triple.Clauses.{Lasts, at_exit}
 use denote.Triple.Entry.{Args, Res}
 use Rattle.laws.specs.Unique.{Unique}
-use Rattle.coding.proofs.Unique.{message_is}
+use Rattle.coding.proofs.Heard.{heard_is}
 use Rattle.packet.proofs.Papers.{address_is, header_read_is, text_read_is}
 use Rattle.packet.proofs.Whole.{framed_is}
 use Rattle.packet.specs.contracts.address_of as address-of
@@ -33,7 +33,7 @@ use Rattle.packet.specs.contracts.writing.row_packet as row-packet
 use Rattle.packet.proofs.writing.row_packet.Reads as row-packet-reads
 
 pub message_at_unique : Unique message-at.ended message-at-reads.Post
-message_at_unique κs a r r' ws ws' p q = (message_is r r' (p ∙ sym q), refl)
+message_at_unique κs a r r' ws ws' p q = (heard_is r r' (p ∙ sym q), refl)
 
 pub is_mended_unique : Unique is-mended.ended is-mended-reads.Post
 is_mended_unique κs a r r' ws ws' p q = (p ∙ sym q, refl)
@@ -55,8 +55,7 @@ pub header_of_unique : Unique header_of.ended header-of-reads.Post
 header_of_unique κs a r r' ws ws' p q = (header_read_is r r' (p ∙ sym q), refl)
 
 pub text_of_unique : Unique text_of.ended text-of-reads.Post
-text_of_unique κs a r r' ws ws' p q =
-    (λ i. record { answer = text_read_is r.answer r'.answer (p.0 ∙ sym q.0) i; bytes = (p.1 ∙ sym q.1) i }, refl)
+text_of_unique κs a r r' ws ws' p q = (text_read_is r r' (p.0 ∙ sym q.0) (p.1 ∙ sym q.1), refl)
 
 -- ---- what is sent
 

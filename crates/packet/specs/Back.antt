@@ -1,6 +1,6 @@
 -- Document 02, request 2: reading what was written gives it back, for every header and every address. What is too large for its bits reads back as its low bits.
 -- The law is a type, and its proof stands in proofs/.
-use Rattle.std.specs.Prelude.{List, ◌++◌, map, ◌≡◌, ℕ, ◌-◌, ◌%◌, length}
+use Rattle.std.specs.Prelude.{List, ◌++◌, map, ◌≡◌, ℕ, ◌-◌, ◌%◌, length, Ok}
 use Rattle.std.proofs.Math.Option.{Option, some}
 use Rattle.coding.specs.Bits.{turned_byte}
 use Rattle.coding.specs.Characters.{character}
@@ -13,7 +13,6 @@ use Rattle.packet.specs.Texts.{header_column, text_of}
 use Rattle.packet.specs.Writing.{address_bytes, character_byte, data_line, header_bytes, message_byte, row_packet}
 use Rattle.packet.specs.declared.Address.TheVariants.{Whole}
 use Rattle.packet.specs.declared.Header.{Header}
-use Rattle.packet.specs.declared.HeaderRead.TheVariants.{Good}
 
 -- what of a header is sent: each part in its bits
 unfoldable pub in_bits : Header → Header
@@ -32,9 +31,9 @@ in_bits header =
 pub record ReadsBack : Type 0 where
   pub messages : (m : ℕ) → message (turned_byte (message_byte m)) ≡ some (m % 16)
   pub characters : (code : ℕ) → character (turned_byte (character_byte code)) ≡ some (code % 128)
-  pub addresses : (magazine row : ℕ) (rest : List ℕ) → length rest ≡ columns → address_of (address_bytes magazine row ++ rest) ≡ Whole (magazine_of magazine) (row % 32)
+  pub addresses : (magazine row : ℕ) (rest : List ℕ) → length rest ≡ columns → address_of (address_bytes magazine row ++ rest) ≡ Ok (Whole (magazine_of magazine) (row % 32))
   pub headers : (magazine : ℕ) (header : Header) (rest : List ℕ) → length rest ≡ columns - header_column
-      → header_of (header_bytes magazine header ++ rest) ≡ Good (in_bits header)
+      → header_of (header_bytes magazine header ++ rest) ≡ Ok (in_bits header)
   pub texts : (magazine row : ℕ) (codes : List ℕ) → length codes ≡ columns
       → map character (text_of (row_packet magazine row codes)).bytes ≡ map {B = Option ℕ} (λ code. some (code % 128)) codes
   pub lines : (packet : List ℕ) → length packet ≡ packet_length → packet_of (data_line packet) ≡ packet

@@ -1,14 +1,14 @@
 -- Document 01, "Addresses and headers": in row 0 eight more messages follow the address: page units, page tens, minutes units, minutes tens (3 bits)
 -- with C4, hours units, hours tens (2 bits) with C5 and C6, C7 to C10, C11 to C14, lowest weight first.
-use Rattle.std.specs.Prelude.{cond, List, [], ◌∷◌, ◌++◌, map, ℕ, ◌-◌, ◌/◌, ◌%◌, ◌^◌, eqb, length, get_or}
+use Rattle.std.specs.Prelude.{cond, List, [], ◌∷◌, ◌++◌, map, ℕ, ◌-◌, ◌/◌, ◌%◌, ◌^◌, eqb, length, get_or, Result, Ok, Err}
 use Rattle.std.proofs.Math.Option.{Option, none, some}
 use Rattle.laws.specs.Digits.{binary, bit}
 use Rattle.laws.specs.Paper.{Paper, accepted, refused_by, unnumbered}
 use Rattle.coding.specs.Hamming.{message}
 use Rattle.packet.specs.Lines.{packet_bytes, packet_length}
 use Rattle.packet.specs.declared.Header.{Header}
-use Rattle.packet.specs.declared.HeaderRead.{HeaderRead}
-use Rattle.packet.specs.declared.HeaderRead.TheVariants.{Good, Spoiled, WrongLength}
+use Rattle.packet.specs.declared.HeaderError.{HeaderError}
+use Rattle.packet.specs.declared.HeaderError.TheVariants.{Spoiled, WrongLength}
 
 -- the four bits of a message, lowest weight first
 unfoldable pub lowest_first : ℕ → List ℕ
@@ -73,14 +73,14 @@ unfolding message packet_bytes
 header_messages packet = map message (control_bytes packet)
 
 -- spoiled where one of the eight is refused
-unfoldable pub header_or : Option (List ℕ) → HeaderRead
+unfoldable pub header_or : Option (List ℕ) → Result Header HeaderError
 unfolding header_from
-header_or none = Spoiled
-header_or (some messages) = Good (header_from messages)
+header_or none = Err Spoiled
+header_or (some messages) = Ok (header_from messages)
 
-unfoldable pub header_of : List ℕ → HeaderRead
+unfoldable pub header_of : List ℕ → Result Header HeaderError
 unfolding header_or all_good header_messages
-header_of packet = cond (eqb (length packet) packet_length) (header_or (all_good (header_messages packet))) WrongLength
+header_of packet = cond (eqb (length packet) packet_length) (header_or (all_good (header_messages packet))) (Err WrongLength)
 
 -- a header's values, in the order of the page record
 unfoldable pub header_values : Header → List ℕ
@@ -89,8 +89,8 @@ header_values header =
     ∷ header.minutes_tens ∷ header.minutes_units ∷ header.control ∷ []
 
 -- the paper's number and values: a spoiled header is an answer without a number
-unfoldable pub header_paper : HeaderRead → Paper
+unfoldable pub header_paper : Result Header HeaderError → Paper
 unfolding accepted refused_by unnumbered header_values
-header_paper (Good header) = accepted (header_values header)
-header_paper Spoiled = unnumbered
-header_paper WrongLength = refused_by 10 []
+header_paper (Ok header) = accepted (header_values header)
+header_paper (Err Spoiled) = unnumbered
+header_paper (Err WrongLength) = refused_by 10 []

@@ -2,7 +2,6 @@ pub mod Addresses
 pub mod Back
 pub mod Headers
 pub mod Lines
-pub mod Private
 pub mod Sent
 pub mod Texts
 pub mod Writing

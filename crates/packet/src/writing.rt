@@ -49,12 +49,11 @@ pub fn address_bytes(magazine: u8, row: u8) -> [u8; ADDRESS_LENGTH]
 fn control_messages(header: Header) -> [u8; MESSAGES]
     ensures { result ≡ control_messages header }
 {
-    let control = header.control;
-    let c4 = (control / C4_WEIGHT % 2) as u8;
-    let c5 = (control / 512 % 2) as u8;
-    let c6 = (control / 256 % 2) as u8;
-    let c7_to_c10 = crate::reversed((control / 16 % 16) as u8) as u8;
-    let c11_to_c14 = crate::reversed((control % 16) as u8) as u8;
+    let c4 = (header.control / C4_WEIGHT % 2) as u8;
+    let c5 = (header.control / 512 % 2) as u8;
+    let c6 = (header.control / 256 % 2) as u8;
+    let c7_to_c10 = crate::reversed((header.control / 16 % 16) as u8) as u8;
+    let c11_to_c14 = crate::reversed((header.control % 16) as u8) as u8;
     [
         header.units,
         header.tens,
@@ -71,15 +70,11 @@ fn control_messages(header: Header) -> [u8; MESSAGES]
 pub fn header_bytes(magazine: u8, header: Header) -> [u8; HEADER_LENGTH]
     ensures { result ≡ header_bytes magazine header }
 {
-    let address = address_bytes(magazine, 0);
     let messages = control_messages(header);
-    let mut bytes = [0u8; HEADER_LENGTH];
-    bytes[0] = address[0];
-    bytes[1] = address[1];
-    let mut at = 0;
-    while at < MESSAGES {
+    let mut bytes = [0; HEADER_LENGTH];
+    bytes[..ADDRESS_LENGTH].copy_from_slice(&address_bytes(magazine, 0));
+    for at in 0..MESSAGES {
         bytes[ADDRESS_LENGTH + at] = message_byte(messages[at]);
-        at += 1;
     }
     bytes
 }
@@ -88,14 +83,10 @@ pub fn header_bytes(magazine: u8, header: Header) -> [u8; HEADER_LENGTH]
 pub fn row_packet(magazine: u8, row: u8, characters: [u8; COLUMNS]) -> [u8; PACKET_LENGTH]
     ensures { result ≡ row_packet magazine row characters }
 {
-    let address = address_bytes(magazine, row);
-    let mut packet = [0u8; PACKET_LENGTH];
-    packet[0] = address[0];
-    packet[1] = address[1];
-    let mut column = 0;
-    while column < COLUMNS {
+    let mut packet = [0; PACKET_LENGTH];
+    packet[..ADDRESS_LENGTH].copy_from_slice(&address_bytes(magazine, row));
+    for column in 0..COLUMNS {
         packet[ADDRESS_LENGTH + column] = character_byte(characters[column]);
-        column += 1;
     }
     packet
 }
@@ -105,12 +96,7 @@ pub fn header_packet(magazine: u8, header: Header, characters: [u8; COLUMNS]) ->
     ensures { result ≡ header_packet magazine header characters }
 {
     let mut packet = row_packet(magazine, 0, characters);
-    let bytes = header_bytes(magazine, header);
-    let mut at = 0;
-    while at < HEADER_LENGTH {
-        packet[at] = bytes[at];
-        at += 1;
-    }
+    packet[..HEADER_LENGTH].copy_from_slice(&header_bytes(magazine, header));
     packet
 }
 
@@ -120,10 +106,6 @@ pub fn data_line(packet: [u8; PACKET_LENGTH]) -> [u8; LINE_LENGTH]
 {
     let mut line = [RUN_IN; LINE_LENGTH];
     line[FRAMING_PLACE] = FRAMING_CODE;
-    let mut at = 0;
-    while at < PACKET_LENGTH {
-        line[PACKET_PLACE + at] = packet[at];
-        at += 1;
-    }
+    line[PACKET_PLACE..].copy_from_slice(&packet);
     line
 }

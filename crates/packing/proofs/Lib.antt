@@ -4,6 +4,5 @@ pub mod Groups
 pub mod Moves
 pub mod Places
 pub mod Splits
-pub mod Steps
 pub mod Unique
 pub mod Values

@@ -27,39 +27,18 @@ pub struct NineBytes {
     pub last: u8,
 }
 
-// A byte as a word's type.
-fn wide(byte: u8) -> u64
-    ensures { (result ≡ byte) × (result < 256) }
-{
-    byte as u64
-}
-
 // Eight bytes as one word.
 pub fn word_of(bytes: [u8; 8]) -> u64
     ensures { result ≡ binary (bits_of bytes) }
 {
-    let mut word: u64 = 0;
-    let mut at = 0;
-    while at < 8 {
-        word = word * 256 + wide(bytes[at]);
-        at += 1;
-    }
-    word
+    u64::from_be_bytes(bytes)
 }
 
 // The eight bytes of a word.
 fn bytes_of(word: u64) -> [u8; 8]
     ensures { result ≡ bytes_of 8 (digits 64 word) }
 {
-    let mut bytes = [0u8; 8];
-    let mut rest = word;
-    let mut left = 8;
-    while 0 < left {
-        left -= 1;
-        bytes[left] = (rest % 256) as u8;
-        rest = rest / 256;
-    }
-    bytes
+    word.to_be_bytes()
 }
 
 // Each cell's last eight bits, which are its mark's lower bit and its character: a byte for each cell.
@@ -119,7 +98,7 @@ pub fn unpacked(first: [u8; 8], last: u8) -> EightCells
     ensures { result ≡ eight_from (cell_fields group_cells (first ++ (last ∷ []))) }
 {
     let word = word_of(first);
-    let cells = together(word) * 256 + wide(last);
+    let cells = together(word) * 256 + last as u64;
     EightCells {
         marks: bytes_of((cells & 0x8080808080808080) / 128 + upper_bits(word)),
         characters: bytes_of(cells & 0x7F7F7F7F7F7F7F7F),

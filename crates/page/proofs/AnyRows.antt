@@ -8,6 +8,7 @@ use native.Mathlib.Omega.{arith}
 use borrow.Author.Tests.{eq-eqb, eqb-true, leb-true}
 use lib.Dec.{T, eqb, leb}
 use lib.ListN.{length, get_or, take, drop}
+use Rattle.std.specs.Prelude.{Result, Ok, Err, ⊤}
 use Rattle.laws.specs.Below.{all_below}
 use Rattle.laws.specs.Every.{every}
 use Rattle.laws.specs.Fields.{bits_of, bytes_of, fields_bits, fields_of, fits}
@@ -62,8 +63,10 @@ use Rattle.page.specs.Records.{
 use Rattle.page.specs.Writing.{page_answer}
 use Rattle.page.specs.declared.Cells.{Cells}
 use Rattle.page.specs.declared.Page.{Page}
-use Rattle.page.specs.declared.ReadAnswer.TheVariants as read
-use Rattle.page.specs.declared.WriteAnswer.TheVariants.{Written, TooLarge, BadDigit, UnlawfulCells}
+use Rattle.page.specs.declared.ReadError.{ReadError}
+use Rattle.page.specs.declared.ReadError.TheVariants as read
+use Rattle.page.specs.declared.WriteError.{WriteError}
+use Rattle.page.specs.declared.WriteError.TheVariants.{TooLarge, BadDigit, UnlawfulCells}
 use Rattle.page.proofs.Forms.{
   cells_fit_here,
   cells_in,
@@ -119,25 +122,25 @@ clean_back false = refl
 
 -- ---- what an answer shows
 
-module _ (page : Page) (taken : page_answer page ≡ Written) where
-  by_answer : (f d l : Bool) → cond f (cond d (cond l Written UnlawfulCells) BadDigit) TooLarge ≡ Written → (f ≡ true) × (d ≡ true) × (l ≡ true)
+module _ (page : Page) (taken : page_answer page ≡ Ok tt) where
+  by_answer : (f d l : Bool) → ◌≡◌ {A = Result ⊤ WriteError} (cond f (cond d (cond l (Ok tt) (Err UnlawfulCells)) (Err BadDigit)) (Err TooLarge)) (Ok tt) → (f ≡ true) × (d ≡ true) × (l ≡ true)
   by_answer true true true e = (refl, refl, refl)
-  by_answer true true false e = absurd (let z : ◌≡◌ {A = ℕ} 0 1 = cc in omega arith)
-  by_answer true false l e = absurd (let z : ◌≡◌ {A = ℕ} 0 1 = cc in omega arith)
-  by_answer false d l e = absurd (let z : ◌≡◌ {A = ℕ} 0 1 = cc in omega arith)
+  by_answer true true false e = absurd (cc)
+  by_answer true false l e = absurd (cc)
+  by_answer false d l e = absurd (cc)
 
   pub shown : (page_fits page ≡ true) × (digits_lawful page.header ≡ true) × (cells_lawful page.cells ≡ true)
   unfolding page_answer
   shown = by_answer (page_fits page) (digits_lawful page.header) (cells_lawful page.cells) taken
 
 by_read : (w z d l : Bool)
-    → cond w (cond z (cond d (cond l read.Read read.UnlawfulCells) read.BadDigit) read.WrongRowCode) read.WrongLength ≡ read.Read
+    → ◌≡◌ {A = Result ⊤ ReadError} (cond w (cond z (cond d (cond l (Ok tt) (Err read.UnlawfulCells)) (Err read.BadDigit)) (Err read.WrongRowCode)) (Err read.WrongLength)) (Ok tt)
     → (w ≡ true) × (z ≡ true) × (d ≡ true) × (l ≡ true)
 by_read true true true true e = (refl, refl, refl, refl)
-by_read true true true false e = absurd (let z : ◌≡◌ {A = ℕ} 0 1 = cc in omega arith)
-by_read true true false l e = absurd (let z : ◌≡◌ {A = ℕ} 0 1 = cc in omega arith)
-by_read true false d l e = absurd (let z : ◌≡◌ {A = ℕ} 0 1 = cc in omega arith)
-by_read false z d l e = absurd (let z : ◌≡◌ {A = ℕ} 0 1 = cc in omega arith)
+by_read true true true false e = absurd (cc)
+by_read true true false l e = absurd (cc)
+by_read true false d l e = absurd (cc)
+by_read false z d l e = absurd (cc)
 
 clean_fits : (clean : Bool) → cond clean 1 0 < 2
 clean_fits true = omega arith
@@ -162,7 +165,7 @@ magazine_fits_law value h =
 module _ (n : ℕ) where
   -- ---- a page that is written
 
-  module _ (page : Page) (whole : WholeFor n page) (taken : page_answer page ≡ Written) where
+  module _ (page : Page) (whole : WholeFor n page) (taken : page_answer page ≡ Ok tt) where
     abbrev head : List ℕ
     head = head_values page.magazine page.header page.clean (row_code n)
 
@@ -238,13 +241,13 @@ module _ (n : ℕ) where
     unfolding code_from values_of head_values header_values
     code-back = eq-eqb _ _ (ap code_from values-back)
 
-    pub reads-written-for : read_answer_for n (record_for n page) ≡ read.Read
+    pub reads-written-for : read_answer_for n (record_for n page) ≡ Ok tt
     unfolding read_answer_for
     reads-written-for =
         let long = eq-eqb (length (record_for n page)) (record_length_of n) (length-record-for n page) in
         let digits = ap (λ (p : Page). digits_lawful p.header) in-record-for ∙ (shown page taken).1 in
         let lawful = ap (λ (p : Page). cells_lawful p.cells) in-record-for ∙ (shown page taken).2 in
-        λ i. cond (long i) (cond (code-back i) (cond (digits i) (cond (lawful i) read.Read read.UnlawfulCells) read.BadDigit) read.WrongRowCode) read.WrongLength
+        λ i. cond (long i) (cond (code-back i) (cond (digits i) (cond (lawful i) (Ok tt) (Err read.UnlawfulCells)) (Err read.BadDigit)) (Err read.WrongRowCode)) (Err read.WrongLength)
 
   -- ---- a record that is read
 
@@ -272,7 +275,7 @@ module _ (n : ℕ) where
             (digits.0, (digits.1.0, (times.0, (times.1.0, (times.1.1.0, (times.1.1.1.0, (times.1.1.1.1.0, tt))))))),
       )
 
-  module _ (bytes : List ℕ) (taken : read_answer_for n bytes ≡ read.Read) where
+  module _ (bytes : List ℕ) (taken : read_answer_for n bytes ≡ Ok tt) where
     abbrev Lawful : Type 0
     Lawful =
         (eqb (length bytes) (record_length_of n) ≡ true) × (eqb (code_from (values_in n bytes)) (row_code n) ≡ true)
@@ -326,12 +329,12 @@ module _ (n : ℕ) where
         λ i. m i && (h i && c i)
 
     -- the writer takes what was read
-    pub writes-read-for : page_answer (page_in_rows n bytes) ≡ Written
+    pub writes-read-for : page_answer (page_in_rows n bytes) ≡ Ok tt
     unfolding page_answer
     writes-read-for =
         let digits = read-shown.2 in
         let lawful = read-shown.3 in
-        λ i. cond (fits_read i) (cond (digits i) (cond (lawful i) Written UnlawfulCells) BadDigit) TooLarge
+        λ i. cond (fits_read i) (cond (digits i) (cond (lawful i) (Ok tt) (Err UnlawfulCells)) (Err BadDigit)) (Err TooLarge)
 
     -- and writing it gives the same bytes
     pub record-back-for : AreBytes bytes → record_for n (page_in_rows n bytes) ≡ bytes
@@ -346,17 +349,17 @@ module _ (n : ℕ) where
 
   -- bytes that the writer writes for some page
   abbrev pub WrittenFor : List ℕ → Type 0
-  WrittenFor bytes = (page : Page) × (WholeFor n page × (page_answer page ≡ Written) × (record_for n page ≡ bytes))
+  WrittenFor bytes = (page : Page) × (WholeFor n page × (page_answer page ≡ Ok tt) × (record_for n page ≡ bytes))
 
-  pub taken-is-written-for : (bytes : List ℕ) → AreBytes bytes → read_answer_for n bytes ≡ read.Read → WrittenFor bytes
+  pub taken-is-written-for : (bytes : List ℕ) → AreBytes bytes → read_answer_for n bytes ≡ Ok tt → WrittenFor bytes
   taken-is-written-for bytes are taken =
       (page_in_rows n bytes, (whole-read-for bytes taken, writes-read-for bytes taken, record-back-for bytes taken are))
 
-  pub written-is-taken-for : (bytes : List ℕ) → WrittenFor bytes → read_answer_for n bytes ≡ read.Read
+  pub written-is-taken-for : (bytes : List ℕ) → WrittenFor bytes → read_answer_for n bytes ≡ Ok tt
   written-is-taken-for bytes w =
       ap (read_answer_for n) (sym w.1.2) ∙ reads-written-for w.0 w.1.0 w.1.1
 
   -- and no two pages have the same bytes
-  pub one-page-for : (page page' : Page) → WholeFor n page → WholeFor n page' → page_answer page ≡ Written → page_answer page' ≡ Written
+  pub one-page-for : (page page' : Page) → WholeFor n page → WholeFor n page' → page_answer page ≡ Ok tt → page_answer page' ≡ Ok tt
       → record_for n page ≡ record_for n page' → page ≡ page'
   one-page-for page page' w w' a a' e = sym (in-record-for page w a) ∙ (ap (page_in_rows n) e ∙ in-record-for page' w' a')

@@ -1,36 +1,45 @@
 -- The checks of 24 and 23 cell by cell, and what each answer shows.
 use mathlib.Core.Path.{◌≡◌, refl, ◌∙◌, sym}
 use mathlib.Core.Bool.{Bool, true, false, not, cond, ◌&&◌, ◌||◌, not-not, and_comm, and-true, or-false}
-use mathlib.Core.List.{List}
-use Prim.Native.Nat.{ℕ, suc, ◌+◌, ◌-◌, ◌^◌, ◌<◌, ◌≤◌}
+use mathlib.Core.List.{List, [], ◌∷◌}
+use Prim.Native.Nat.{ℕ, zero, suc, ◌+◌, ◌-◌, ◌^◌, ◌<◌, ◌≤◌}
 use native.Mathlib.Nat.{le_trans}
 use native.Mathlib.Numerals.{add-one}
 use native.Mathlib.Omega.{arith}
-use borrow.Author.Tests.{leb-true, leb-false, le-leb, lt-leb}
+use borrow.Author.Tests.{eq-eqb, eqb-true, leb-true, leb-false, le-leb, lt-leb}
 use lib.Bits.{bit_or, or_add_and, or_lt, and_le_l, and_le_r}
 use lib.Dec.{eqb, leb, ltb}
 use lib.ListN.{length, get_or, take, drop, drop_of_length-le}
 use lib.Seq.{drop-cons}
+use Rattle.std.proofs.Math.Nat.{le-max_left, le-max_right, max-le}
+use Rattle.std.specs.Prelude.{◌≢◌, max, ◌↔◌, IsTrue, Ok, Err, SomeIndex, is_ok, slice_index, ⊤}
 use Rattle.laws.specs.Every.{every, every_pair}
 use Rattle.laws.specs.Fields.{fits}
-use Rattle.laws.proofs.Every.{every_more}
-use Rattle.laws.proofs.Opposite.{at_most_is, below_is, not_and}
+use Rattle.laws.proofs.Opposite.{at_most_is, below_is}
 use Rattle.packet.specs.Texts.{header_column}
 use Rattle.packing.specs.Cells.{character_width, mark_width}
 use Rattle.page.specs.Lawful.{cell_lawful, cells_checked, cells_fit, cells_lawful, highest_mark, is_never, never, space}
 use Rattle.page.specs.Records.{cells_of}
 use Rattle.page.specs.declared.Cells.{Cells}
-use Rattle.page.specs.declared.CellsCheck.{CellsCheck}
-use Rattle.page.specs.declared.CellsCheck.TheVariants.{Lawful, TooLarge, Unlawful}
+use Rattle.page.specs.declared.CellsError.TheVariants.{TooLarge, Unlawful}
 
 -- ---- the columns 0 to 7 of row 0
 
--- one column more
-pub marked_more : (marks : List ℕ) (column : ℕ) → column < length marks
-    → (not (every is_never (take column marks)) || not (eqb (get_or marks column 0) never)) ≡ not (every is_never (take (column + 1) marks))
-unfolding is_never
-marked_more marks column h =
-    rw (add-one column, every_more is_never marks column 0 h) (sym (not_and (every is_never (take column marks)) (eqb (get_or marks column 0) never)))
+-- one is marked just where not every one is never
+pub marked_by : (marks : List ℕ) (marked : Bool) → (IsTrue marked ↔ SomeIndex marks (λ k. slice_index marks k ≢ never)) → marked ≡ not (every is_never marks)
+unfolding is_never every
+marked_by [] true e = absurd (omega (arith, (e.0 refl).1))
+marked_by [] false e = refl
+marked_by (mark ∷ marks) marked e = by (eqb mark never) refl (marked_by marks marked)
+  where
+    later : eqb mark never ≡ true → SomeIndex (mark ∷ marks) (λ k. slice_index (mark ∷ marks) k ≢ never) → SomeIndex marks (λ k. slice_index marks k ≢ never)
+    later z (zero, h, other) = absurd (other (eqb-true mark never z))
+    later z (suc k, h, other) = (k, omega arith, other)
+
+    by : (z : Bool) → eqb mark never ≡ z → (IsTrue marked ↔ SomeIndex marks (λ k. slice_index marks k ≢ never) → marked ≡ not (every is_never marks))
+        → marked ≡ not (eqb mark never && every is_never marks)
+    by true z rest = rw z (rest (λ t. later z (e.0 t), λ some. e.1 (suc some.0, omega (arith, some.1), some.2)))
+    by false z rest = rw z (e.1 (0, omega arith, λ w. absurd (cc (eq-eqb mark never w))))
 
 -- ---- what is gathered of the cells
 
@@ -76,18 +85,17 @@ module _ (k a b : ℕ) where
 
 -- the higher of two numbers reaches a bound just where one of them does
 module _ (bound a b : ℕ) where
-  higher-cases : (above p q : Bool) → ltb a b ≡ above → leb bound a ≡ p → leb bound b ≡ q → leb bound (cond above b a) ≡ (p || q)
-  higher-cases true false q e f g = g
-  higher-cases true true true e f g = g
-  higher-cases true true false e f g =
-      absurd (let l = leb-true (suc a) b e in let r = leb-true bound a f in let t = leb-false bound b g in omega arith)
-  higher-cases false true q e f g = f
-  higher-cases false false false e f g = f
-  higher-cases false false true e f g =
-      absurd (let l = leb-false (suc a) b e in let r = leb-true bound b g in let t = leb-false bound a f in omega arith)
+  higher-cases : (p q : Bool) → leb bound a ≡ p → leb bound b ≡ q → leb bound (max a b) ≡ (p || q)
+  higher-cases true q e f = le-leb bound (max a b) (le_trans (leb-true bound a e) (le-max_left a b))
+  higher-cases false true e f = le-leb bound (max a b) (le_trans (leb-true bound b f) (le-max_right a b))
+  higher-cases false false e f =
+      let l = leb-false bound a e in
+      let r = leb-false bound b f in
+      let least : max a b ≤ bound - 1 = max-le (omega arith) (omega arith) in
+      lt-leb bound (max a b) (omega arith)
 
-  higher-reaches : leb bound (cond (ltb a b) b a) ≡ (leb bound a || leb bound b)
-  higher-reaches = higher-cases (ltb a b) (leb bound a) (leb bound b) refl refl refl
+  higher-reaches : leb bound (max a b) ≡ (leb bound a || leb bound b)
+  higher-reaches = higher-cases (leb bound a) (leb bound b) refl refl
 
 lawful_cases : (u h m z s r : Bool) → (not (u || h) && ((not m && (not z || s)) && r)) ≡ (not ((u || (z && not s)) || (h || m)) && r)
 lawful_cases true h m z s r = refl
@@ -108,7 +116,7 @@ module _ (characters marks : List ℕ) (at : ℕ) (c : at < length characters) (
   abbrev mark : ℕ
   mark = get_or marks at 0
 
-  pub fit-more : (character-bits highest higher : ℕ) → higher ≡ cond (ltb highest mark) mark highest
+  pub fit-more : (character-bits highest higher : ℕ) → higher ≡ max highest mark
       → (not (large character-bits highest) && cells_fit (cells_of (drop at characters) (drop at marks)))
       ≡ (not (large (bit_or character-bits character) higher) && cells_fit (cells_of (drop (at + 1) characters) (drop (at + 1) marks)))
   unfolding cells_fit every fits
@@ -126,7 +134,7 @@ module _ (characters marks : List ℕ) (at : ℕ) (c : at < length characters) (
       (fit_cases (ltb (largest mark_width) highest) (ltb (largest character_width) character-bits) (ltb (largest mark_width) mark)
       (ltb (largest character_width) character) (every (fits mark_width) (drop (suc at) marks)) (every (fits character_width) (drop (suc at) characters)))
 
-  pub lawful-more : (unlawful : Bool) (highest higher : ℕ) → higher ≡ cond (ltb highest mark) mark highest
+  pub lawful-more : (unlawful : Bool) (highest higher : ℕ) → higher ≡ max highest mark
       → (not (wrong unlawful highest) && every_pair cell_lawful (drop at marks) (drop at characters))
       ≡ (not (wrong (unlawful || (eqb mark never && not (eqb character space))) higher)
       && every_pair cell_lawful (drop (at + 1) marks) (drop (at + 1) characters))
@@ -161,31 +169,24 @@ module _ (characters marks : List ℕ) (at : ℕ) (c : length characters ≤ at)
 -- ---- what an answer shows
 
 module _ (cells : Cells) where
-  checked : (fit lawful : Bool) → cells_fit cells ≡ fit → cells_lawful cells ≡ lawful → cells_checked cells ≡ cond fit (cond lawful Lawful Unlawful) TooLarge
+  checked : {fit lawful : Bool} → cells_fit cells ≡ fit → cells_lawful cells ≡ lawful → cells_checked cells ≡ cond fit (cond lawful (Ok tt) (Err Unlawful)) (Err TooLarge)
   unfolding cells_checked
-  checked fit lawful e f = rw (e, f)
+  checked e f = rw (e, f)
 
-  pub answer-large : cells_fit cells ≡ false → cells_checked cells ≡ TooLarge
-  unfolding cells_checked
-  answer-large e = rw e
+  pub answer-large : cells_fit cells ≡ false → cells_checked cells ≡ Err TooLarge
+  answer-large e = checked e refl
 
-  pub answer-unlawful : cells_fit cells ≡ true → cells_lawful cells ≡ false → cells_checked cells ≡ Unlawful
-  answer-unlawful e f = checked true false e f
+  pub answer-unlawful : cells_fit cells ≡ true → cells_lawful cells ≡ false → cells_checked cells ≡ Err Unlawful
+  answer-unlawful e f = checked e f
 
-  pub answer-lawful : cells_fit cells ≡ true → cells_lawful cells ≡ true → cells_checked cells ≡ Lawful
-  answer-lawful e f = checked true true e f
+  pub answer-lawful : cells_fit cells ≡ true → cells_lawful cells ≡ true → cells_checked cells ≡ Ok tt
+  answer-lawful e f = checked e f
 
--- cells that fit and are not found lawful are not lawful, and those found lawful are
-pub lawful_shown : (cells : Cells) → cells_fit cells ≡ true → Lawful ≡ cells_checked cells → cells_lawful cells ≡ true
-lawful_shown cells e a = shown (cells_lawful cells) refl
+-- cells that fit are lawful just where the check has nothing against them
+pub lawful_is_ok : (cells : Cells) → cells_fit cells ≡ true → is_ok (cells_checked cells) ≡ cells_lawful cells
+unfolding cells_checked
+lawful_is_ok cells e = rw e (by (cells_lawful cells))
   where
-    shown : (lawful : Bool) → cells_lawful cells ≡ lawful → cells_lawful cells ≡ true
-    shown true f = f
-    shown false f = absurd (let z : ◌≡◌ {A = ℕ} 0 1 = cc (answer-unlawful cells e f) in omega arith)
-
-pub unlawful_shown : (cells : Cells) → cells_fit cells ≡ true → (answer : CellsCheck) → answer ≡ cells_checked cells → (answer ≡ Lawful → ⊥) → cells_lawful cells ≡ false
-unlawful_shown cells e answer a other = shown (cells_lawful cells) refl
-  where
-    shown : (lawful : Bool) → cells_lawful cells ≡ lawful → cells_lawful cells ≡ false
-    shown true f = absurd (other (a ∙ answer-lawful cells e f))
-    shown false f = f
+    by : (lawful : Bool) → is_ok {T = ⊤} (cond lawful (Ok tt) (Err Unlawful)) ≡ lawful
+    by true = refl
+    by false = refl

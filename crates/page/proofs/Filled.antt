@@ -7,6 +7,7 @@ use native.Mathlib.Omega.{arith}
 use lib.Dec.{T}
 use lib.ListN.{length, length-append, length-replicate, replicate}
 use lib.Seq.{take-append-le}
+use Rattle.std.specs.Prelude.{Ok, Err}
 use Rattle.laws.specs.Every.{every, every_pair}
 use Rattle.laws.specs.Fields.{fits}
 use Rattle.laws.proofs.Bools.{both_true, passed}
@@ -20,7 +21,7 @@ use Rattle.page.specs.Records.{cells_of, page_of}
 use Rattle.page.specs.Writing.{page_answer}
 use Rattle.page.specs.declared.Cells.{Cells}
 use Rattle.page.specs.declared.Page.{Page}
-use Rattle.page.specs.declared.WriteAnswer.TheVariants.{Written, TooLarge, BadDigit, UnlawfulCells}
+use Rattle.page.specs.declared.WriteError.TheVariants.{TooLarge, BadDigit, UnlawfulCells}
 use Rattle.page.proofs.AnyRows.{CellsFor, WholeFor, parts, shown}
 
 -- pairs that pass, put behind two lists of one length, change no answer
@@ -74,7 +75,7 @@ module _ (n : ℕ) (few : n ≤ rows) where
         λ i. pairs i && every is_never (first i)
 
   -- the writer takes a page that is filled up where it took the page
-  pub filled-written : 1 ≤ n → (page : Page) → WholeFor n page → page_answer page ≡ Written → page_answer (filled_page page) ≡ Written
+  pub filled-written : 1 ≤ n → (page : Page) → WholeFor n page → page_answer page ≡ Ok tt → page_answer (filled_page page) ≡ Ok tt
   unfolding page_answer filled_page page_fits
   filled-written some page whole taken =
       let fit = parts n page whole taken in
@@ -83,7 +84,7 @@ module _ (n : ℕ) (few : n ≤ rows) where
       let inside = filled-fits page.cells whole fit.2 in
       let digits = (shown page taken).1 in
       let lawful = filled-lawful page.cells whole some ∙ (shown page taken).2 in
-      λ i. cond (magazine i && (header i && inside i)) (cond (digits i) (cond (lawful i) Written UnlawfulCells) BadDigit) TooLarge
+      λ i. cond (magazine i && (header i && inside i)) (cond (digits i) (cond (lawful i) (Ok tt) (Err UnlawfulCells)) (Err BadDigit)) (Err TooLarge)
 
 -- ---- of a page that has all the grid's, nothing is changed
 

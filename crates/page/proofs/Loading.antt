@@ -4,7 +4,7 @@ use mathlib.Core.List.{List, [], ◌∷◌, ◌++◌}
 use Prim.Native.Nat.{ℕ, ◌+◌, ◌*◌, ◌-◌, ◌<◌, ◌≤◌}
 use native.Mathlib.Omega.{arith}
 use lib.ListN.{length, length-drop, get_or, replicate, take, drop}
-use lib.Seq.{drop-drop, take_all}
+use lib.Seq.{drop-drop, paste, take_all}
 use Rattle.laws.proofs.Lists.{drop_replicate}
 use Rattle.laws.proofs.Runs.{over, over_more}
 use Rattle.grid.specs.Grid.{cell_count, columns}
@@ -21,12 +21,12 @@ use Rattle.packing.proofs.Splits.{length_cell_fields, length_characters, length_
 -- eight more laid over a list, where those before them are
 pub eight_laid : (old all : List ℕ) (group : ℕ) → group * group_cells ≤ length all → (some new eight : List ℕ) → length eight ≡ group_cells
     → eight ≡ take group_cells (drop (group * group_cells) all) → some ≡ over old all (group * group_cells)
-    → new ≡ take (group * group_cells) some ++ eight ++ drop (group * group_cells + length eight) some
+    → new ≡ paste some (group * group_cells) eight group_cells
     → new ≡ over old all ((group + 1) * group_cells)
 eight_laid old all group h some new eight l e f g =
     let next : group * group_cells + group_cells ≡ (group + 1) * group_cells = omega arith in
     g
-    ∙ ((λ i. take (group * group_cells) (f i) ++ e i ++ drop (group * group_cells + l i) (f i))
+    ∙ ((λ i. take (group * group_cells) (f i) ++ (take_all group_cells eight (omega arith) ∙ e) i ++ drop (group * group_cells + group_cells) (f i))
     ∙ (over_more old all (group * group_cells) group_cells h ∙ ap (over old all) next))
 
 -- so many groups, from a place on

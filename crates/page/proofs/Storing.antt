@@ -34,12 +34,12 @@ module _ (groups at : ℕ) (marks characters : List ℕ) (m : length marks ≡ g
 
   pub group-stored : (group : ℕ) → group < groups → (old : List ℕ) → at + groups * group_bytes ≤ length old → (some first : List ℕ) (nine : NineBytes)
       → length some ≡ length old → length nine.first ≡ group_cells → nine ≡ nine_from (nine_of group) → some ≡ paste old at all (group * group_bytes)
-      → first ≡ take (at + group * group_bytes) some ++ nine.first ++ drop (at + group * group_bytes + length nine.first) some
+      → first ≡ paste some (at + group * group_bytes) nine.first group_cells
       → set first (at + group * group_bytes + group_cells) nine.last ≡ paste old at all ((group + 1) * group_bytes)
   group-stored group h old long some first nine l k e f g =
       let place = at + group * group_bytes in
       let next : group * group_bytes + group_bytes ≡ (group + 1) * group_bytes = omega arith in
-      ap (λ (xs : List ℕ). set xs (place + group_cells) nine.last) g
+      ap (λ (xs : List ℕ). set xs (place + group_cells) nine.last) (g ∙ (λ i. take place some ++ take_all group_cells nine.first (omega arith) i ++ drop (place + sym k i) some))
       ∙ (last_stored some nine.first place nine.last k (omega arith)
       ∙ ((λ i. take place (f i) ++ nine-of group h nine e i ++ drop (place + group_bytes) (f i))
       ∙ (pasted_more old at all (group * group_bytes) group_bytes (omega arith) (omega (arith, length-all)) ∙ ap (paste old at all) next)))

@@ -5,6 +5,7 @@ use mathlib.Core.List.{List}
 use Prim.Native.Nat.{ℕ}
 use native.Mathlib.Omega.{arith}
 use lib.ListN.{length}
+use Rattle.std.specs.Prelude.{Result, Ok, ⊤}
 use Rattle.laws.proofs.Fields.{AreBytes}
 use Rattle.grid.specs.Grid.{rows}
 use Rattle.page.specs.OldForm.{old_length}
@@ -12,9 +13,7 @@ use Rattle.page.specs.Reading.{filled_page, page_beside, page_in, page_in_rows, 
 use Rattle.page.specs.Records.{record_for, record_length, record_length_of, record_of}
 use Rattle.page.specs.Writing.{page_answer}
 use Rattle.page.specs.declared.Page.{Page}
-use Rattle.page.specs.declared.ReadAnswer.{ReadAnswer}
-use Rattle.page.specs.declared.ReadAnswer.TheVariants.{Read}
-use Rattle.page.specs.declared.WriteAnswer.TheVariants.{Written}
+use Rattle.page.specs.declared.ReadError.{ReadError}
 use Rattle.page.proofs.AnyRows.{
   WholeFor,
   in-record-for,
@@ -44,7 +43,7 @@ new_form bytes e = rows_new bytes (λ old. omega (arith, e, old))
 
 -- ---- a page that is written
 
-module _ (page : Page) (whole : Whole page) (taken : page_answer page ≡ Written) where
+module _ (page : Page) (whole : Whole page) (taken : page_answer page ≡ Ok tt) where
   pub record-bytes : AreBytes (record_of page)
   unfolding record_of
   record-bytes = record-bytes-for rows page whole taken
@@ -57,20 +56,20 @@ module _ (page : Page) (whole : Whole page) (taken : page_answer page ≡ Writte
   in-record =
       ap (λ (n : ℕ). filled_page (page_in_rows n (record_of page))) new-rows ∙ (ap filled_page (in-record-for rows page whole taken) ∙ filled_same page whole)
 
-  pub reads-written : read_answer (record_of page) ≡ Read
+  pub reads-written : read_answer (record_of page) ≡ Ok tt
   unfolding read_answer record_of
   reads-written = ap (λ (n : ℕ). read_answer_for n (record_of page)) new-rows ∙ reads-written-for rows page whole taken
 
   -- reading what was written gives the record back
   pub page-read-back : page_read (record_of page) ≡ page
   unfolding page_read page_beside
-  page-read-back = ap (λ (answer : ReadAnswer). page_beside answer (record_of page)) reads-written ∙ in-record
+  page-read-back = ap (λ (answer : Result ⊤ ReadError). page_beside answer (record_of page)) reads-written ∙ in-record
 
 -- ---- a record that is read
 
-module _ (bytes : List ℕ) (taken : read_answer bytes ≡ Read) where
+module _ (bytes : List ℕ) (taken : read_answer bytes ≡ Ok tt) where
   -- as a record of its form's rows
-  pub taken-rows : read_answer_for (rows_in bytes) bytes ≡ Read
+  pub taken-rows : read_answer_for (rows_in bytes) bytes ≡ Ok tt
   unfolding read_answer
   taken-rows = taken
 
@@ -82,7 +81,7 @@ module _ (bytes : List ℕ) (taken : read_answer bytes ≡ Read) where
   whole-read = filled-whole (rows_in bytes) (rows-within bytes).1 (page_in_rows (rows_in bytes) bytes).cells (whole-read-for (rows_in bytes) bytes taken-rows)
 
   -- the writer takes what was read
-  pub writes-read : page_answer (page_in bytes) ≡ Written
+  pub writes-read : page_answer (page_in bytes) ≡ Ok tt
   unfolding page_in
   writes-read =
       filled-written (rows_in bytes) (rows-within bytes).1 (rows-within bytes).0 (page_in_rows (rows_in bytes) bytes) (whole-read-for (rows_in bytes) bytes taken-rows)
@@ -90,7 +89,7 @@ module _ (bytes : List ℕ) (taken : read_answer bytes ≡ Read) where
 
   pub page-read : page_read bytes ≡ page_in bytes
   unfolding page_read page_beside
-  page-read = ap (λ (answer : ReadAnswer). page_beside answer bytes) taken
+  page-read = ap (λ (answer : Result ⊤ ReadError). page_beside answer bytes) taken
 
   -- one that is not of the old form is of the new
   pub new-length : (length bytes ≡ old_length → ⊥) → length bytes ≡ record_length
@@ -98,8 +97,8 @@ module _ (bytes : List ℕ) (taken : read_answer bytes ≡ Read) where
 
   -- ---- of the new form
   module _ (new : length bytes ≡ record_length) where
-    pub new-taken : read_answer_for rows bytes ≡ Read
-    new-taken = subst (λ (n : ℕ). read_answer_for n bytes ≡ Read) (new_form bytes new) taken-rows
+    pub new-taken : read_answer_for rows bytes ≡ Ok tt
+    new-taken = subst (λ (n : ℕ). read_answer_for n bytes ≡ Ok tt) (new_form bytes new) taken-rows
 
     pub new-page : page_in bytes ≡ page_in_rows rows bytes
     unfolding page_in
@@ -111,6 +110,6 @@ module _ (bytes : List ℕ) (taken : read_answer bytes ≡ Read) where
     record-back are = ap (record_for rows) new-page ∙ record-back-for rows bytes new-taken are
 
 -- no two pages have the same bytes
-pub one_page : (page page' : Page) → Whole page → Whole page' → page_answer page ≡ Written → page_answer page' ≡ Written → record_of page ≡ record_of page' → page ≡ page'
+pub one_page : (page page' : Page) → Whole page → Whole page' → page_answer page ≡ Ok tt → page_answer page' ≡ Ok tt → record_of page ≡ record_of page' → page ≡ page'
 unfolding record_of
 one_page = one-page-for rows

@@ -9,6 +9,7 @@ use native.Mathlib.Omega.{arith}
 use borrow.Author.Tests.{ne_eqb}
 use lib.ListN.{length, replicate, drop}
 use lib.Seq.{drop_at, take_at}
+use Rattle.std.specs.Prelude.{Ok}
 use Rattle.laws.specs.Paper.{refused_by}
 use Rattle.laws.proofs.Fields.{AreBytes}
 use Rattle.grid.specs.Grid.{cell_count, columns, rows}
@@ -17,7 +18,6 @@ use Rattle.page.specs.OldForm.{first_rows, old_answer, old_count, old_length, ol
 use Rattle.page.specs.Reading.{filled, filled_page, page_in, page_in_rows, read_answer, read_answer_for, read_paper, rows_in}
 use Rattle.page.specs.Records.{cells_of, code_from, old_rows, page_of, record_for, record_length, record_length_of, record_of, row_code, values_in}
 use Rattle.page.specs.declared.Page.{Page}
-use Rattle.page.specs.declared.ReadAnswer.TheVariants.{Read}
 use Rattle.page.proofs.AnyRows.{WholeFor, WrittenFor, code_at_most_1, record-back-for, taken-is-written-for, whole-read-for, written-is-taken-for}
 use Rattle.page.proofs.Forms.{code_is, length-record-for}
 use Rattle.page.proofs.ReaderSteps.{answer_otherwise, rows_new, rows-old, wrong-code, wrong_length_law}
@@ -76,8 +76,8 @@ module _ (bytes : List ℕ) (old : length bytes ≡ old_length) where
   unfolding page_in old_page_in
   as-old-page = ap (λ (n : ℕ). filled_page (page_in_rows n bytes)) (rows-old bytes old)
 
-  module _ (taken : read_answer bytes ≡ Read) where
-    old-taken : read_answer_for old_rows bytes ≡ Read
+  module _ (taken : read_answer bytes ≡ Ok tt) where
+    old-taken : read_answer_for old_rows bytes ≡ Ok tt
     unfolding old_answer
     old-taken = sym as-old-reader ∙ taken
 
@@ -104,7 +104,7 @@ module _ (bytes : List ℕ) (old : length bytes ≡ old_length) where
 
 -- ---- no third form
 
-module _ (bytes : List ℕ) (are : AreBytes bytes) (taken : read_answer bytes ≡ Read) where
+module _ (bytes : List ℕ) (are : AreBytes bytes) (taken : read_answer bytes ≡ Ok tt) where
   -- what the reader takes is its page's record in the new form, or in the old one
   pub no-third-form : (record_of (page_in bytes) ≡ bytes) ⊎ (old_record_of (page_in bytes) ≡ bytes)
   no-third-form = by (ℕ_discrete (length bytes) old_length)
@@ -122,13 +122,13 @@ module _ (bytes : List ℕ) (are : AreBytes bytes) (taken : read_answer bytes �
       by (no new) = inl (taken-is-written-for rows bytes are (new-taken bytes taken (new-length bytes taken new)))
 
 -- and every such record is taken
-pub written_is_taken : (bytes : List ℕ) → WrittenFor rows bytes → read_answer bytes ≡ Read
+pub written_is_taken : (bytes : List ℕ) → WrittenFor rows bytes → read_answer bytes ≡ Ok tt
 unfolding read_answer
 written_is_taken bytes w =
     let long = sym (ap length w.1.2) ∙ length-record-for rows w.0 in
     ap (λ (n : ℕ). read_answer_for n bytes) (new_form bytes long) ∙ written-is-taken-for rows bytes w
 
-pub old_is_taken : (bytes : List ℕ) → WrittenFor old_rows bytes → read_answer bytes ≡ Read
+pub old_is_taken : (bytes : List ℕ) → WrittenFor old_rows bytes → read_answer bytes ≡ Ok tt
 unfolding old_answer
 old_is_taken bytes w =
     let long = sym (ap length w.1.2) ∙ length-record-for old_rows w.0 in

@@ -1,7 +1,11 @@
 -- Any two answers that meet a public function's contract are equal, and so is what they leave in a lent buffer, said of the generated contracts.
 use mathlib.Core.Path.{refl, ◌∙◌, sym}
 use Rattle.laws.specs.Unique.{Unique}
-use Rattle.page.proofs.Papers.{check_is, read_is, write_is}
+use Rattle.page.proofs.Papers.{check_is, page_is, write_is}
+use Rattle.page.specs.contracts.ReadError.number as read-number
+use Rattle.page.proofs.ReadError.number.Reads as read-number-reads
+use Rattle.page.specs.contracts.WriteError.number as write-number
+use Rattle.page.proofs.WriteError.number.Reads as write-number-reads
 use Rattle.page.specs.contracts.lawful.check_cells as check-cells
 use Rattle.page.proofs.lawful.check_cells.Reads as check-cells-reads
 use Rattle.page.specs.contracts.lawful.header_fits as header_fits_law
@@ -26,5 +30,10 @@ pub write_record_unique : Unique write-record.ended write-record-reads.Post
 write_record_unique κs a r r' ws ws' p q = (write_is r r' (p.0 ∙ sym q.0), λ i. (tt, ((p.1 ∙ sym q.1) i, tt)))
 
 pub read_record_unique : Unique read-record.ended read-record-reads.Post
-read_record_unique κs a r r' ws ws' p q =
-    (λ i. record { answer = read_is r.answer r'.answer (p.0 ∙ sym q.0) i; page = (p.1 ∙ sym q.1) i }, refl)
+read_record_unique κs a r r' ws ws' p q = (page_is r r' (p.0 ∙ sym q.0) (p.1 ∙ sym q.1), refl)
+
+pub read_number_unique : Unique read-number.ended read-number-reads.Post
+read_number_unique κs a r r' ws ws' p q = (p ∙ sym q, refl)
+
+pub write_number_unique : Unique write-number.ended write-number-reads.Post
+write_number_unique κs a r r' ws ws' p q = (p ∙ sym q, refl)

@@ -1,5 +1,5 @@
 -- Document 01, "Numbers of refusal": what 24, 22 and 23 ask, each over the whole of a page, and each part to be used alone.
-use Rattle.std.specs.Prelude.{Bool, cond, not, ◌&&◌, ◌||◌, [], ℕ, eqb, leb, take}
+use Rattle.std.specs.Prelude.{Bool, cond, not, ◌&&◌, ◌||◌, [], ℕ, eqb, leb, take, Result, Ok, Err, ⊤}
 use Rattle.laws.specs.Every.{every, every_pair}
 use Rattle.laws.specs.Fields.{fits}
 use Rattle.laws.specs.Paper.{Paper, accepted, refused_by}
@@ -7,8 +7,8 @@ use Rattle.packet.specs.Headers.{header_values}
 use Rattle.packet.specs.Texts.{header_column}
 use Rattle.packet.specs.declared.Header.{Header}
 use Rattle.page.specs.declared.Cells.{Cells}
-use Rattle.page.specs.declared.CellsCheck.{CellsCheck}
-use Rattle.page.specs.declared.CellsCheck.TheVariants.{Lawful, TooLarge, Unlawful}
+use Rattle.page.specs.declared.CellsError.{CellsError}
+use Rattle.page.specs.declared.CellsError.TheVariants.{TooLarge, Unlawful}
 use Rattle.page.specs.declared.Page.{Page}
 use Rattle.page.specs.Records.{header_widths, mark_width, character_width}
 
@@ -67,12 +67,12 @@ cells_lawful cells = every_pair cell_lawful cells.marks cells.characters && ever
 
 -- ---- cells alone: 24 before 23
 
-unfoldable pub cells_checked : Cells → CellsCheck
+unfoldable pub cells_checked : Cells → Result ⊤ CellsError
 unfolding cells_fit cells_lawful
-cells_checked cells = cond (cells_fit cells) (cond (cells_lawful cells) Lawful Unlawful) TooLarge
+cells_checked cells = cond (cells_fit cells) (cond (cells_lawful cells) (Ok tt) (Err Unlawful)) (Err TooLarge)
 
-unfoldable pub cells_paper : CellsCheck → Paper
+unfoldable pub cells_paper : Result ⊤ CellsError → Paper
 unfolding accepted refused_by
-cells_paper Lawful = accepted []
-cells_paper TooLarge = refused_by 24 []
-cells_paper Unlawful = refused_by 23 []
+cells_paper (Ok _) = accepted []
+cells_paper (Err TooLarge) = refused_by 24 []
+cells_paper (Err Unlawful) = refused_by 23 []

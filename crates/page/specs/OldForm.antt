@@ -1,11 +1,11 @@
 -- The record and its reader as document 01 had them before document 02, request 5: 24 rows, 1,085 bytes, the four bits zero. No function promises these words. They say
 -- what old records are, and what a reader that knows no other does with a new one.
-use Rattle.std.specs.Prelude.{List, ℕ, ◌*◌, take}
+use Rattle.std.specs.Prelude.{List, ℕ, ◌*◌, take, Result, ⊤}
 use Rattle.grid.specs.Grid.{columns}
 use Rattle.page.specs.Reading.{page_in_rows, read_answer_for}
 use Rattle.page.specs.Records.{cells_of, old_rows, page_of, record_for, record_length_of}
 use Rattle.page.specs.declared.Page.{Page}
-use Rattle.page.specs.declared.ReadAnswer.{ReadAnswer}
+use Rattle.page.specs.declared.ReadError.{ReadError}
 
 abbrev pub old_length : ℕ
 old_length = record_length_of old_rows
@@ -24,7 +24,7 @@ unfolding record_for first_rows
 old_record_of page = record_for old_rows (first_rows page)
 
 -- the old reader
-unfoldable pub old_answer : List ℕ → ReadAnswer
+unfoldable pub old_answer : List ℕ → Result ⊤ ReadError
 unfolding read_answer_for
 old_answer bytes = read_answer_for old_rows bytes
 

@@ -1,19 +1,17 @@
 -- For the contracts of private functions: no promise rests on these words.
-use Rattle.std.specs.Prelude.{Bool, cond, false, List, ◌++◌, ℕ, ◌*◌, ◌/◌, get_or, take, drop}
+use Rattle.std.specs.Prelude.{Bool, cond, false, List, ◌++◌, ℕ, ◌*◌, ◌/◌, get_or, take, drop, Result, Ok, Err, ⊤}
 use Rattle.laws.specs.Fields.{bits_of, bytes_of, fields_bits, fields_of}
 use Rattle.grid.specs.Grid.{cell_count, columns, rows}
 use Rattle.packing.specs.Cells.{cell_bytes, group_cells}
 use Rattle.packet.specs.declared.Header.{Header}
 use Rattle.page.specs.Lawful.{cells_lawful}
 use Rattle.page.specs.Records.{clean_from, code_from, head_length, head_values, head_widths, header_at, magazine_from, page_of, record_length, row_length}
-use Rattle.page.specs.Reading.{zero_page}
 use Rattle.page.specs.Writing.{page_answer}
 use Rattle.page.specs.declared.Cells.{Cells}
-use Rattle.page.specs.declared.PageRead.{PageRead}
-use Rattle.page.specs.declared.ReadAnswer.{ReadAnswer}
-use Rattle.page.specs.declared.ReadAnswer.TheVariants.{Read, UnlawfulCells}
-use Rattle.page.specs.declared.WriteAnswer.{WriteAnswer}
-use Rattle.page.specs.declared.WriteAnswer.TheVariants.{BadDigit}
+use Rattle.page.specs.declared.Page.{Page}
+use Rattle.page.specs.declared.ReadError.{ReadError}
+use Rattle.page.specs.declared.ReadError.TheVariants.{UnlawfulCells}
+use Rattle.page.specs.declared.WriteError.{WriteError}
 use Rattle.page.specs.declared.reading.Head.{Head}
 
 -- the groups of cells that fill whole bytes: those of a row, and all
@@ -36,12 +34,8 @@ unfoldable pub head_bytes : ℕ → Header → Bool → ℕ → List ℕ
 unfolding bytes_of fields_bits head_values
 head_bytes magazine header clean code = bytes_of head_length (fields_bits head_widths (head_values magazine header clean code))
 
--- an answer of a page whose digits are lawful, and 22 of any other
-abbrev pub by_digits : Bool → WriteAnswer → WriteAnswer
-by_digits digits answer = cond digits answer BadDigit
-
 -- a page's answer, from its parts
-unfoldable pub parts_answer : ℕ → Header → Cells → WriteAnswer
+unfoldable pub parts_answer : ℕ → Header → Cells → Result ⊤ WriteError
 unfolding page_answer
 parts_answer magazine header cells = page_answer (page_of magazine header false cells)
 
@@ -55,10 +49,6 @@ unfoldable pub head_from : List ℕ → Head
 unfolding magazine_from header_at clean_from code_from
 head_from values = record { magazine = magazine_from (get_or values 0 0); header = header_at values; clean = clean_from values; code = code_from values }
 
--- a refusal and what stands beside it, and the page of a head and its cells, or 23
-abbrev pub refused_read : ReadAnswer → PageRead
-refused_read answer = record { answer = answer; page = zero_page }
-
-abbrev pub headed_read : Head → Cells → PageRead
-headed_read head cells =
-    cond (cells_lawful cells) (record { answer = Read; page = page_of head.magazine head.header head.clean cells }) (refused_read UnlawfulCells)
+-- the page of a head and its cells, or 23
+abbrev pub headed_read : Head → Cells → Result Page ReadError
+headed_read head cells = cond (cells_lawful cells) (Ok (page_of head.magazine head.header head.clean cells)) (Err UnlawfulCells)

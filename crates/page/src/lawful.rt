@@ -6,7 +6,7 @@ ghost use Rattle.packet.specs.Texts.{header_column};
 ghost use Rattle.page.specs.Lawful.{cells_checked, cells_paper, digits_lawful, header_fits, is_never};
 ghost use Rattle.page.specs.Records.{cells_of};
 
-use crate::{CellsCheck, FRESH, NEVER, SPACE};
+use crate::{CellsError, FRESH, NEVER, SPACE};
 use grid::CELLS;
 use packet::{HEADER_COLUMN, Header};
 
@@ -43,51 +43,30 @@ fn header_columns_marked(marks: &[u8]) -> bool
     requires { header_column ≤ length marks.now }
     ensures { result ≡ not (every is_never (take header_column marks.now)) }
 {
-    let mut marked = false;
-    let mut column = 0;
-    while column < HEADER_COLUMN {
-        marked = marked | (marks[column] != NEVER);
-        column += 1;
-    }
-    marked
+    marks[..HEADER_COLUMN].iter().any(|mark| *mark != NEVER)
 }
 
-fn higher(highest: u8, mark: u8) -> u8
-    ensures { result ≡ cond (ltb highest mark) mark highest }
-{
-    if mark > highest { mark } else { highest }
-}
-
-// The check of all cells. It has no branch for a cell, so that many are asked at once. The bits that any character has and the highest mark are
-// gathered, and whether one is too large, or above the lawful marks, is asked of these at the end.
-fn all_checked(characters: &[u8], marks: &[u8]) -> CellsCheck
-    requires { (length characters.now ≡ cell_count) × (length marks.now ≡ cell_count) }
-    ensures { result ≡ cells_checked (cells_of characters.now marks.now) }
+// Whether cells are lawful: whether all fit their bits is asked before whether all are lawful. The cells are lent in two arrays, as a caller has them that holds
+// them apart. The check has no branch for a cell, so that many are asked at once. The bits that any character has and the highest mark are gathered, and whether
+// one is too large, or above the lawful marks, is asked of these at the end.
+pub fn check_cells(characters: &[u8; CELLS], marks: &[u8; CELLS]) -> Result<(), CellsError>
+    ensures { cells_paper result ≡ cells_paper (cells_checked (cells_of characters.now marks.now)) }
 {
     let mut character_bits: u8 = 0;
     let mut highest: u8 = 0;
     let mut unlawful = header_columns_marked(marks);
-    let mut at = 0;
-    while at < CELLS {
+    for at in 0..CELLS {
         let character = characters[at];
         let mark = marks[at];
-        character_bits = character_bits | character;
-        highest = higher(highest, mark);
-        unlawful = unlawful | ((mark == NEVER) & (character != SPACE));
-        at += 1;
+        character_bits |= character;
+        highest = highest.max(mark);
+        unlawful |= (mark == NEVER) & (character != SPACE);
     }
     if (character_bits > LARGEST_CHARACTER) | (highest > LARGEST_MARK) {
-        return CellsCheck::TooLarge;
+        return Err(CellsError::TooLarge);
     }
     if unlawful | (highest > HIGHEST_MARK) {
-        return CellsCheck::Unlawful;
+        return Err(CellsError::Unlawful);
     }
-    CellsCheck::Lawful
-}
-
-// Whether cells are lawful: whether all fit their bits is asked before whether all are lawful.
-pub fn check_cells(characters: &[u8; CELLS], marks: &[u8; CELLS]) -> CellsCheck
-    ensures { cells_paper result ≡ cells_paper (cells_checked (cells_of characters.now marks.now)) }
-{
-    all_checked(characters, marks)
+    Ok(())
 }

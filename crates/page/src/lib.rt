@@ -1,6 +1,10 @@
 // The page record: a page packed into the bytes of its form, and read back. The old form, of records from before row 24 was shown, is only read.
 #![tactic(auto)]
 
+ghost use Rattle.std.specs.Prelude.{◌≡◌};
+ghost use Rattle.page.specs.Reading.{read_number};
+ghost use Rattle.page.specs.Writing.{write_number};
+
 mod lawful;
 mod parts;
 mod reading;
@@ -8,7 +12,7 @@ mod writing;
 
 use grid::{CELLS, ROWS};
 pub use lawful::{check_cells, header_fits};
-use packet::Header;
+use packet::{Header, ZERO_HEADER};
 pub use reading::read_record;
 pub use writing::{write_parts, write_record};
 
@@ -61,37 +65,55 @@ pub struct Page {
     pub cells: Cells,
 }
 
-// What a check of cells gives; document 01 calls a cell too large for its bits 24, and an unlawful one 23.
-#[derive(Drop)]
-pub enum CellsCheck {
-    Lawful,
+// The zero of pages, which the promises have beside a refusal.
+pub const ZERO_PAGE: Page = Page {
+    magazine: 0,
+    header: ZERO_HEADER,
+    clean: false,
+    cells: ZERO_CELLS,
+};
+
+// Why cells are refused; document 01 calls a cell too large for its bits 24, and an unlawful one 23.
+#[derive(Clone, Copy, PartialEq, Eq)]
+pub enum CellsError {
     TooLarge,
     Unlawful,
 }
 
-// What writing a page gives; the refusals' numbers are 12, 24, 22 and 23.
-#[derive(Drop)]
-pub enum WriteAnswer {
-    Written,
-    ShortRecord,
-    TooLarge,
-    BadDigit,
-    UnlawfulCells,
+// Why a page is not written.
+#[derive(Clone, Copy, PartialEq, Eq)]
+pub enum WriteError {
+    ShortRecord = 12,
+    TooLarge = 24,
+    BadDigit = 22,
+    UnlawfulCells = 23,
 }
 
-// What reading a record gives; the refusals' numbers are 20 to 23.
-#[derive(Drop)]
-pub enum ReadAnswer {
-    Read,
-    WrongLength,
-    WrongRowCode,
-    BadDigit,
-    UnlawfulCells,
+impl WriteError {
+    // The number that document 01 gives the refusal.
+    #[tactic(auto, unfolding(crate::specs::Writing::write_number))]
+    pub fn number(self) -> u8
+        ensures { result ≡ write_number self }
+    {
+        self as u8
+    }
 }
 
-// The answer, and the page beside it: all zeros beside a refusal.
-#[derive(Drop)]
-pub struct PageRead {
-    pub answer: ReadAnswer,
-    pub page: Page,
+// Why a record is not read.
+#[derive(Clone, Copy, PartialEq, Eq)]
+pub enum ReadError {
+    WrongLength = 20,
+    WrongRowCode = 21,
+    BadDigit = 22,
+    UnlawfulCells = 23,
+}
+
+impl ReadError {
+    // The number that document 01 gives the refusal.
+    #[tactic(auto, unfolding(crate::specs::Reading::read_number))]
+    pub fn number(self) -> u8
+        ensures { result ≡ read_number self }
+    {
+        self as u8
+    }
 }

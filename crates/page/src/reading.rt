@@ -3,16 +3,16 @@ ghost use Rattle.std.specs.Prelude.{◌≡◌, ◌*◌, ◌<◌, ◌≤◌, leng
 ghost use Rattle.laws.specs.Fields.{digits, fields_of};
 ghost use Rattle.grid.specs.Grid.{columns, rows};
 ghost use Rattle.packing.specs.Cells.{cell_fields};
-ghost use Rattle.page.specs.Private.{head_from, headed_read, refused_read};
-ghost use Rattle.page.specs.Reading.{filled, page_read, read_answer, read_paper, rows_in};
+ghost use Rattle.page.specs.Private.{head_from, headed_read};
+ghost use Rattle.page.specs.Reading.{filled, page_given, page_read, read_answer, read_paper, rows_in};
 ghost use Rattle.page.specs.Records.{cells_from, head_length, head_widths, magazine_from, record_length_of, row_code};
 
 use crate::{
-    Cells, CellsCheck, HEAD_LENGTH, NEVER, OLD_CODE, OLD_LENGTH, OLD_ROWS, Page, PageRead,
-    ROW_CODE, ROW_LENGTH, ReadAnswer, SPACE, ZERO_CELLS, lawful, parts,
+    Cells, HEAD_LENGTH, NEVER, OLD_CODE, OLD_LENGTH, OLD_ROWS, Page, ROW_CODE, ROW_LENGTH,
+    ReadError, SPACE, lawful, parts,
 };
 use grid::{CELLS, COLUMNS, ROWS};
-use packet::{Header, ZERO_HEADER};
+use packet::Header;
 use packing::{GROUP_BYTES, GROUP_CELLS};
 
 // Eight cells are nine bytes; so many such groups are a row.
@@ -64,55 +64,29 @@ fn cells_in(record: &[u8], count: usize) -> Cells
 {
     let mut characters = [SPACE; CELLS];
     let mut marks = [NEVER; CELLS];
-    let groups = count * ROW_GROUPS;
-    let mut group = 0;
-    while group < groups {
+    for group in 0..count * ROW_GROUPS {
         let place = HEAD_LENGTH + group * GROUP_BYTES;
         let eight = packing::unpacked(parts::eight_at(record, place), record[place + GROUP_CELLS]);
-        let some_characters = eight.characters;
-        let some_marks = eight.marks;
-        parts::store(&mut characters, group * GROUP_CELLS, &some_characters);
-        parts::store(&mut marks, group * GROUP_CELLS, &some_marks);
-        group += 1;
+        let at = group * GROUP_CELLS;
+        characters[at..at + GROUP_CELLS].copy_from_slice(&eight.characters);
+        marks[at..at + GROUP_CELLS].copy_from_slice(&eight.marks);
     }
     Cells { characters, marks }
 }
 
-// A refusal, and all zeros beside it.
-fn refused(answer: ReadAnswer) -> PageRead
-    ensures { result ≡ refused_read answer }
-{
-    let page = Page {
-        magazine: 0,
-        header: ZERO_HEADER,
-        clean: false,
-        cells: ZERO_CELLS,
-    };
-    PageRead { answer, page }
-}
-
-// The page of a head that passed and of the cells after it, or 23.
-fn with_cells(head: Head, record: &[u8], count: usize) -> PageRead
+// The page of a head that passed and of the cells after it, or 23: the cells of a record are never too large for their bits.
+fn with_cells(head: Head, record: &[u8], count: usize) -> Result<Page, ReadError>
     requires { (length «record».now ≡ record_length_of count) × (count ≤ rows) }
     ensures { result ≡ headed_read head (filled (cells_from (cell_fields (count * columns) (drop head_length «record».now)))) }
 {
     let cells = cells_in(record, count);
-    let characters = cells.characters;
-    let marks = cells.marks;
-    let CellsCheck::Lawful = lawful::check_cells(&characters, &marks) else {
-        return refused(ReadAnswer::UnlawfulCells);
-    };
-    let header = head.header;
-    let page = Page {
+    lawful::check_cells(&cells.characters, &cells.marks).map_err(|_| ReadError::UnlawfulCells)?;
+    Ok(Page {
         magazine: head.magazine,
-        header,
+        header: head.header,
         clean: head.clean,
         cells,
-    };
-    PageRead {
-        answer: ReadAnswer::Read,
-        page,
-    }
+    })
 }
 
 // The rows of the form that a record's length shows.
@@ -137,21 +111,21 @@ fn row_code(count: usize) -> u8
     }
 }
 
-// The page of a record of either form, or a refusal.
-pub fn read_record(record: &[u8]) -> PageRead
-    ensures { (read_paper result.answer ≡ read_paper (read_answer «record».now)) × (result.page ≡ page_read «record».now) }
+// The page of a record of either form, or why it is refused.
+pub fn read_record(record: &[u8]) -> Result<Page, ReadError>
+    ensures answer { read_paper result ≡ read_paper (read_answer «record».now) }
+    ensures beside { page_given result ≡ page_read «record».now }
 {
     let count = rows_in(record);
     if record.len() != HEAD_LENGTH + count * ROW_LENGTH {
-        return refused(ReadAnswer::WrongLength);
+        return Err(ReadError::WrongLength);
     }
     let head = head_in(packing::word_of(parts::eight_at(record, 0)));
     if head.code != row_code(count) {
-        return refused(ReadAnswer::WrongRowCode);
+        return Err(ReadError::WrongRowCode);
     }
-    let header = head.header;
-    if !lawful::digits_lawful(header) {
-        return refused(ReadAnswer::BadDigit);
+    if !lawful::digits_lawful(head.header) {
+        return Err(ReadError::BadDigit);
     }
     with_cells(head, record, count)
 }

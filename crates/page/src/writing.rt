@@ -1,11 +1,11 @@
 // A page written as its record.
 ghost use Rattle.std.specs.Prelude.{◌≡◌, ◌≤◌, length};
 ghost use Rattle.grid.specs.Grid.{cell_count, rows};
-ghost use Rattle.page.specs.Private.{by_digits, cells_stored, head_bytes, parts_answer};
+ghost use Rattle.page.specs.Private.{cells_stored, head_bytes, parts_answer};
 ghost use Rattle.page.specs.Records.{cells_of, page_of, record_length, row_code};
 ghost use Rattle.page.specs.Writing.{write_answer, write_paper, written};
 
-use crate::{CellsCheck, HEAD_LENGTH, Page, RECORD_LENGTH, ROW_CODE, WriteAnswer, lawful, parts};
+use crate::{CellsError, HEAD_LENGTH, Page, RECORD_LENGTH, ROW_CODE, WriteError, lawful, parts};
 use grid::CELLS;
 use packet::Header;
 use packing::{GROUP_BYTES, GROUP_CELLS};
@@ -28,27 +28,13 @@ fn store_cells(characters: &[u8], marks: &[u8], record: &mut [u8])
     requires { (length characters.now ≡ cell_count) × (length marks.now ≡ cell_count) × (record_length ≤ length «record».old) }
     ensures { «record».new ≡ cells_stored marks.now characters.now «record».old }
 {
-    let mut group = 0;
-    while group < CELLS / GROUP_CELLS {
+    for group in 0..CELLS / GROUP_CELLS {
         let some_marks = parts::eight_at(marks, group * GROUP_CELLS);
         let some_characters = parts::eight_at(characters, group * GROUP_CELLS);
         let nine = packing::packed(some_marks, some_characters);
-        let first = nine.first;
         let place = HEAD_LENGTH + group * GROUP_BYTES;
-        parts::store(record, place, &first);
+        record[place..place + GROUP_CELLS].copy_from_slice(&nine.first);
         record[place + GROUP_CELLS] = nine.last;
-        group += 1;
-    }
-}
-
-// An answer of a page whose digits are lawful, and 22 of any other.
-fn by_digits(digits: bool, answer: WriteAnswer) -> WriteAnswer
-    ensures { result ≡ by_digits digits answer }
-{
-    if digits {
-        answer
-    } else {
-        WriteAnswer::BadDigit
     }
 }
 
@@ -58,19 +44,21 @@ fn page_answer(
     header: Header,
     characters: &[u8; CELLS],
     marks: &[u8; CELLS],
-) -> WriteAnswer
+) -> Result<(), WriteError>
     ensures { result ≡ parts_answer magazine header (cells_of characters.now marks.now) }
 {
     let fits = (magazine >= 1) & (magazine <= 8) & lawful::header_fits(header);
     if !fits {
-        return WriteAnswer::TooLarge;
+        return Err(WriteError::TooLarge);
     }
-    let digits = lawful::digits_lawful(header);
-    match lawful::check_cells(characters, marks) {
-        CellsCheck::TooLarge => WriteAnswer::TooLarge,
-        CellsCheck::Unlawful => by_digits(digits, WriteAnswer::UnlawfulCells),
-        CellsCheck::Lawful => by_digits(digits, WriteAnswer::Written),
+    let checked = lawful::check_cells(characters, marks);
+    if checked == Err(CellsError::TooLarge) {
+        return Err(WriteError::TooLarge);
     }
+    if !lawful::digits_lawful(header) {
+        return Err(WriteError::BadDigit);
+    }
+    checked.map_err(|_| WriteError::UnlawfulCells)
 }
 
 // The record of a page of these parts into the first `RECORD_LENGTH` bytes of what is lent, or nothing where it is refused. The cells are lent, so that a caller
@@ -82,38 +70,30 @@ pub fn write_parts(
     characters: &[u8; CELLS],
     marks: &[u8; CELLS],
     record: &mut [u8],
-) -> WriteAnswer
+) -> Result<(), WriteError>
     ensures result_value { write_paper result ≡ write_paper (write_answer (page_of magazine header clean (cells_of characters.now marks.now)) «record».old) }
     ensures record_after { «record».new ≡ written (page_of magazine header clean (cells_of characters.now marks.now)) «record».old }
 {
     if record.len() < RECORD_LENGTH {
-        return WriteAnswer::ShortRecord;
+        return Err(WriteError::ShortRecord);
     }
-    let answer = page_answer(magazine, header, characters, marks);
-    let WriteAnswer::Written = answer else {
-        return answer;
-    };
-    let head = head_bytes(magazine, header, clean);
-    parts::store(record, 0, &head);
+    page_answer(magazine, header, characters, marks)?;
+    record[..HEAD_LENGTH].copy_from_slice(&head_bytes(magazine, header, clean));
     store_cells(characters, marks, record);
-    WriteAnswer::Written
+    Ok(())
 }
 
 // A page's record into the first `RECORD_LENGTH` bytes of what is lent, or nothing where it is refused.
-pub fn write_record(page: Page, record: &mut [u8]) -> WriteAnswer
+pub fn write_record(page: Page, record: &mut [u8]) -> Result<(), WriteError>
     ensures result_value { write_paper result ≡ write_paper (write_answer page «record».old) }
     ensures record_after { «record».new ≡ written page «record».old }
 {
-    let cells = page.cells;
-    let characters = cells.characters;
-    let marks = cells.marks;
-    let header = page.header;
     write_parts(
         page.magazine,
-        header,
+        page.header,
         page.clean,
-        &characters,
-        &marks,
+        &page.cells.characters,
+        &page.cells.marks,
         record,
     )
 }

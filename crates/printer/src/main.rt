@@ -5,7 +5,7 @@
 ghost use Rattle.std.specs.Prelude.{◌≡◌, length};
 ghost use Rattle.printer.specs.Output.{output};
 
-use page::{RECORD_LENGTH, ReadAnswer};
+use page::RECORD_LENGTH;
 
 // One byte more than a record has, by which a longer one is known.
 const LIMIT: usize = RECORD_LENGTH + 1;
@@ -15,7 +15,7 @@ fn print(rt: &(impl Print + Eprint), text: &[u8], record: &[u8]) -> usize
     requires { text.now ≡ output «record».now }
     ensures { result ≡ length text.now }
 {
-    console::say(rt, text);
+    let _ = console::say(rt, text);
     text.len()
 }
 
@@ -23,21 +23,12 @@ fn print(rt: &(impl Print + Eprint), text: &[u8], record: &[u8]) -> usize
 fn print_record(rt: &(impl Print + Eprint), record: &[u8]) -> usize
     ensures { result ≡ length (output «record».now) }
 {
-    let read = page::read_record(record);
-    let answer = read.answer;
-    let page = read.page;
-    let cells = page.cells;
-    let characters = cells.characters;
-    match answer {
-        ReadAnswer::Read => {
-            let printed = printing::printed_page(&characters);
-            let text = printed.text;
+    match &page::read_record(record) {
+        Ok(page) => {
+            let text = printing::printed_page(&page.cells.characters).unwrap();
             print(rt, &text, record)
         }
-        ReadAnswer::WrongLength => print(rt, b"refused 20\n", record),
-        ReadAnswer::WrongRowCode => print(rt, b"refused 21\n", record),
-        ReadAnswer::BadDigit => print(rt, b"refused 22\n", record),
-        ReadAnswer::UnlawfulCells => print(rt, b"refused 23\n", record),
+        Err(error) => print(rt, &texts::refused_text(error.number()), record),
     }
 }
 

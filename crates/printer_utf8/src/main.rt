@@ -8,7 +8,7 @@ ghost use Rattle.page.specs.Reading.{page_read};
 ghost use Rattle.printer_utf8.specs.Output.{complaint, english_line, number_of, output, written};
 
 use letters::STAND_IN;
-use page::{Page, RECORD_LENGTH, ReadAnswer};
+use page::{Page, RECORD_LENGTH};
 
 // One byte more than a record has, by which a longer one is known.
 const LIMIT: usize = RECORD_LENGTH + 1;
@@ -20,7 +20,7 @@ fn print(rt: &(impl Print + Eprint), text: &[u8], record: &[u8]) -> usize
     requires { text.now ≡ output «record».now }
     ensures { result ≡ length text.now }
 {
-    console::say(rt, text);
+    let _ = console::say(rt, text);
     text.len()
 }
 
@@ -48,40 +48,29 @@ fn say_letters(rt: &impl Eprint, english: bool, control: u16, record: &[u8]) -> 
     ensures { result ≡ length (cond english (english_line control) []) }
 {
     if english {
-        let line = english_line(control);
-        return complain(rt, &line, record);
+        return complain(rt, &english_line(control), record);
     }
     0
 }
 
 // What is said of the letters goes first, so that it is known before the page is read. Answers how many bytes both are.
-fn print_page(rt: &(impl Print + Eprint), page: Page, record: &[u8]) -> usize
-    requires { (page ≡ page_read «record».now) × (number_of «record».now ≡ some 0) }
+fn print_page(rt: &(impl Print + Eprint), page: &Page, record: &[u8]) -> usize
+    requires { (page.now ≡ page_read «record».now) × (number_of «record».now ≡ some 0) }
     ensures { result ≡ written «record».now }
 {
-    let cells = page.cells;
-    let characters = cells.characters;
-    let header = page.header;
-    let control = header.control;
-    let printed = printing::utf8_page(&characters, control);
+    let control = page.header.control;
+    let printed = printing::utf8_page(&page.cells.characters, control).unwrap();
     let said = say_letters(rt, printed.english, control, record);
-    let text = printed.text;
-    said + print(rt, &text[..printed.used], record)
+    said + print(rt, printed.text.as_bytes(), record)
 }
 
 // Writes all that is to be written for a record, and answers how many bytes that are.
 fn print_record(rt: &(impl Print + Eprint), record: &[u8]) -> usize
     ensures { result ≡ written «record».now }
 {
-    let read = page::read_record(record);
-    let answer = read.answer;
-    let page = read.page;
-    match answer {
-        ReadAnswer::Read => print_page(rt, page, record),
-        ReadAnswer::WrongLength => print(rt, b"refused 20\n", record),
-        ReadAnswer::WrongRowCode => print(rt, b"refused 21\n", record),
-        ReadAnswer::BadDigit => print(rt, b"refused 22\n", record),
-        ReadAnswer::UnlawfulCells => print(rt, b"refused 23\n", record),
+    match &page::read_record(record) {
+        Ok(page) => print_page(rt, page, record),
+        Err(error) => print(rt, &texts::refused_text(error.number()), record),
     }
 }
 

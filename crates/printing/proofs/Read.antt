@@ -8,9 +8,11 @@ use native.Mathlib.Omega.{arith}
 use borrow.Author.Tests.{eq-eqb, le-leb, ltb-true}
 use lib.Dec.{T, ltb}
 use lib.ListN.{length, length-replicate}
+use Rattle.std.specs.Prelude.{Result, Ok, Err, ⊤}
 use Rattle.laws.specs.Every.{every}
 use Rattle.laws.specs.Fields.{fits}
 use Rattle.laws.proofs.Bools.{both_true, passed}
+use Rattle.laws.proofs.Inverse.{never}
 use Rattle.laws.proofs.Keeps.{every-replicate}
 use Rattle.grid.specs.Grid.{cell_count}
 use Rattle.display.specs.Pages.{all_codes, is_page, page_cells}
@@ -21,10 +23,9 @@ use Rattle.page.specs.Records.{character_width, mark_width}
 use Rattle.page.specs.Reading.{page_beside, page_in, page_read, read_answer, zero_page}
 use Rattle.page.specs.Writing.{page_answer}
 use Rattle.page.specs.declared.Page.{Page}
-use Rattle.page.specs.declared.ReadAnswer.{ReadAnswer}
-use Rattle.page.specs.declared.ReadAnswer.TheVariants as read
-use Rattle.page.specs.declared.WriteAnswer.{WriteAnswer}
-use Rattle.page.specs.declared.WriteAnswer.TheVariants.{Written, TooLarge, BadDigit, UnlawfulCells}
+use Rattle.page.specs.declared.ReadError.{ReadError}
+use Rattle.page.specs.declared.WriteError.{WriteError}
+use Rattle.page.specs.declared.WriteError.TheVariants.{TooLarge, BadDigit, UnlawfulCells}
 use Rattle.page.proofs.Trips.{whole-read, writes-read}
 use Rattle.printing.proofs.Printable.{PrintableCell, page_printable}
 
@@ -47,14 +48,14 @@ page_of_law characters h = rw (eq-eqb (length characters) cell_count h.0, codes_
 
 -- ---- those of a page that can be written, and of zeros
 
-fits_of : (fit : Bool) (other : WriteAnswer) → cond fit other TooLarge ≡ Written → fit ≡ true
+fits_of : (fit : Bool) (other : Result ⊤ WriteError) → cond fit other (Err TooLarge) ≡ Ok tt → fit ≡ true
 fits_of true other e = refl
-fits_of false other e = absurd (let z : ◌≡◌ {A = ℕ} 0 1 = cc in omega arith)
+fits_of false other e = absurd (never (cc))
 
-page_fits_law : (page : Page) → page_answer page ≡ Written → page_fits page ≡ true
+page_fits_law : (page : Page) → page_answer page ≡ Ok tt → page_fits page ≡ true
 unfolding page_answer
 page_fits_law page e =
-    fits_of (page_fits page) (cond (digits_lawful page.header) (cond (cells_lawful page.cells) Written UnlawfulCells) BadDigit) e
+    fits_of (page_fits page) (cond (digits_lawful page.header) (cond (cells_lawful page.cells) (Ok tt) (Err UnlawfulCells)) (Err BadDigit)) e
 
 characters_fit : (page : Page) → page_fits page ≡ true → every (fits character_width) page.cells.characters ≡ true
 unfolding page_fits cells_fit
@@ -71,21 +72,15 @@ zeros : Characters zero_page.cells.characters
 unfolding zero_page
 zeros = (length-replicate {A = ℕ} cell_count 0, passed _ (every-replicate (fits character_width) cell_count 0 zero_fits))
 
-beside : (answer : ReadAnswer) (bytes : List ℕ) → read_answer bytes ≡ answer → Characters (page_beside answer bytes).cells.characters
+beside : (answer : Result ⊤ ReadError) (bytes : List ℕ) → read_answer bytes ≡ answer → Characters (page_beside answer bytes).cells.characters
 unfolding page_beside
-beside read.Read bytes e = ((whole-read bytes e).0, characters_fit (page_in bytes) (page_fits_law (page_in bytes) (writes-read bytes e)))
-beside read.WrongLength bytes e = zeros
-beside read.WrongRowCode bytes e = zeros
-beside read.BadDigit bytes e = zeros
-beside read.UnlawfulCells bytes e = zeros
+beside (Ok tt) bytes e = ((whole-read bytes e).0, characters_fit (page_in bytes) (page_fits_law (page_in bytes) (writes-read bytes e)))
+beside (Err error) bytes e = zeros
 
-marks_beside : (answer : ReadAnswer) (bytes : List ℕ) → read_answer bytes ≡ answer → length (page_beside answer bytes).cells.marks ≡ cell_count
+marks_beside : (answer : Result ⊤ ReadError) (bytes : List ℕ) → read_answer bytes ≡ answer → length (page_beside answer bytes).cells.marks ≡ cell_count
 unfolding page_beside zero_page
-marks_beside read.Read bytes e = (whole-read bytes e).1
-marks_beside read.WrongLength bytes e = length-replicate {A = ℕ} cell_count 0
-marks_beside read.WrongRowCode bytes e = length-replicate {A = ℕ} cell_count 0
-marks_beside read.BadDigit bytes e = length-replicate {A = ℕ} cell_count 0
-marks_beside read.UnlawfulCells bytes e = length-replicate {A = ℕ} cell_count 0
+marks_beside (Ok tt) bytes e = (whole-read bytes e).1
+marks_beside (Err error) bytes e = length-replicate {A = ℕ} cell_count 0
 
 -- ---- whatever the record's bytes are
 

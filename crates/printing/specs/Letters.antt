@@ -1,11 +1,12 @@
 -- Document 02, request 4: a page printer that writes UTF-8, and says where English stands in. What is refused is what the display refuses, by 25.
-use Rattle.std.specs.Prelude.{Bool, false, cond, List, [], map, ℕ, ◌*◌, length, replicate}
+use Rattle.std.specs.Prelude.{Bool, false, cond, List, [], map, ℕ, ◌*◌, length, replicate, Result, Ok, Err}
 use Rattle.laws.specs.Paper.{Paper, accepted, refused_by}
 use Rattle.laws.specs.Text.{padded}
 use Rattle.letters.specs.Sets.{letter_of, stands_in}
 use Rattle.letters.specs.Utf8.{most_of_letters, utf8_text}
-use Rattle.display.specs.Pages.{display_answer_paper, is_page}
+use Rattle.display.specs.Pages.{is_page}
 use Rattle.printing.specs.Pages.{page_size, page_text}
+use Rattle.display.specs.declared.NotAPage.{NotAPage}
 use Rattle.printing.specs.declared.Utf8Page.{Utf8Page}
 
 -- the letters of a page: of each byte that the page printer prints, the letter under the page's control bits. So a letter is printed as its national letter, also among mosaics
@@ -42,6 +43,8 @@ unfoldable pub printed_utf8 : ℕ → List ℕ → PrintedUtf8
 unfolding is_page shown_utf8 refused_utf8 utf8_page_text
 printed_utf8 control codes = cond (is_page codes) (shown_utf8 control (utf8_page_text control codes)) refused_utf8
 
-unfoldable pub utf8_paper : Utf8Page → PrintedUtf8
-unfolding display_answer_paper
-utf8_paper page = record { answer = display_answer_paper page.answer; english = page.english; bytes = page.text; used = page.used }
+-- the answer's number, and what stands beside it
+unfoldable pub utf8_paper : Result Utf8Page NotAPage → PrintedUtf8
+unfolding accepted refused_by
+utf8_paper (Ok page) = record { answer = accepted []; english = page.english; bytes = page.text.bytes; used = page.text.used }
+utf8_paper (Err refusal) = record { answer = refused_by 25 []; english = false; bytes = replicate utf8_page_size 0; used = 0 }

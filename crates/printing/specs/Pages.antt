@@ -1,13 +1,13 @@
 -- Document 01, "Programs": the page printer takes a record and prints its lines, 25 by request 5. Nothing is trimmed, and every line ends in a line feed. By request 1 of document
 -- 02 a line is a row of the page's cells; what is refused is what the display refuses, by 25.
-use Rattle.std.specs.Prelude.{cond, List, [], ◌++◌, map, ℕ, zero, suc, ◌+◌, ◌*◌, take, drop, replicate}
+use Rattle.std.specs.Prelude.{cond, List, [], ◌++◌, map, ℕ, zero, suc, ◌+◌, ◌*◌, take, drop, replicate, Result, Ok, Err}
 use Rattle.laws.specs.Paper.{accepted, refused_by}
 use Rattle.laws.specs.Text.{line_feed}
 use Rattle.grid.specs.Grid.{columns, rows}
 use Rattle.display.specs.Pages.{display_answer_paper, is_page, page_cells}
 use Rattle.display.specs.declared.Cell.{Cell}
+use Rattle.display.specs.declared.NotAPage.{NotAPage}
 use Rattle.printing.specs.Printed.{Printed, cell_byte}
-use Rattle.printing.specs.declared.PrintedPage.{PrintedPage}
 
 -- a row's characters and its line feed, and so many rows
 abbrev pub line_size : ℕ
@@ -38,6 +38,11 @@ printed_page codes =
     (record { answer = accepted []; bytes = page_text codes })
     (record { answer = refused_by 25 []; bytes = replicate page_size 0 })
 
-unfoldable pub page_paper : PrintedPage → Printed
-unfolding display_answer_paper
-page_paper page = record { answer = display_answer_paper page.answer; bytes = page.text }
+-- the bytes beside an answer
+unfoldable pub bytes_beside : Result (List ℕ) NotAPage → List ℕ
+bytes_beside (Ok text) = text
+bytes_beside (Err refusal) = replicate page_size 0
+
+unfoldable pub page_paper : Result (List ℕ) NotAPage → Printed
+unfolding display_answer_paper bytes_beside
+page_paper page = record { answer = display_answer_paper page; bytes = bytes_beside page }

@@ -10,7 +10,6 @@ use Rattle.announcing.specs.Said.{Saying, SaysAs, fitting, longest, said}
 use Rattle.announcing.specs.declared.Announced.{Announced}
 use Rattle.announcing.proofs.Walking.{drop_take}
 use Rattle.receive.specs.Feeding.{Comes, Feeds, Turned, chunk_size, fed_from, last_part, lines_at_once, whole_lines}
-use Rattle.receive.specs.declared.Next.{Next}
 use Rattle.receive.specs.declared.State.{State}
 use Rattle.receive.specs.declared.Turn.{Turn}
 
@@ -58,10 +57,10 @@ module _ (chunk : List ℕ) (full : ℕ) (fits : full ≤ length chunk) where
       sym (ap (λ (n : ℕ). drop n bytes) whole-size ∙ (drop_take (full - full % line_length) full chunk ∙ ap (λ (n : ℕ). take n (drop (full - full % line_length) chunk)) rest))
 
   -- fed and carried over
-  pub turned : (state after : State) (next : Next) (left : List ℕ) → Feeds (said (fed_from state) (take (full - full % line_length) chunk)) after
+  pub turned : (state after : State) (left : List ℕ) → Feeds (said (fed_from state) (take (full - full % line_length) chunk)) after
       → take (full % line_length) left ≡ take (full % line_length) (drop (full - full % line_length) chunk)
-      → Turned state bytes (record { state = after; part = full % line_length; next = next }) left
-  turned state after next left feeds carries =
+      → Turned state bytes (record { state = after; part = full % line_length }) left
+  turned state after left feeds carries =
       record {
         fed = subst (λ (lines : List ℕ). Feeds (said (fed_from state) lines) after) whole_is feeds;
         carried = carries ∙ part_is;
@@ -81,9 +80,9 @@ module _ (chunk : List ℕ) (part : ℕ) (fits : part ≤ length chunk) (after :
   unfolding said
   nothing-fed = record { kept = refl; watched = refl; left = refl }
 
-  pub none_came : part < line_length → (next : Next) → Comes state (take part chunk) (record { state = state; part = part; next = next }) after
+  pub none_came : part < line_length → Comes state (take part chunk) (record { state = state; part = part }) after
   unfolding whole_lines last_part
-  none_came small next =
+  none_came small =
       let size = length-take-le part chunk fits in
       let none : length (take part chunk) / line_length * line_length ≡ 0 = omega arith in
       record {

@@ -4,13 +4,13 @@ use mathlib.Core.Bool.{true}
 use mathlib.Core.List.{List}
 use Prim.Native.Nat.{ℕ, ◌<◌}
 use lib.ListN.{length}
+use Rattle.std.specs.Prelude.{Ok}
 use Rattle.grid.specs.Grid.{last_row}
 use Rattle.packet.specs.Addresses.{address_of}
 use Rattle.packet.specs.Headers.{header_of}
 use Rattle.packet.specs.Lines.{packet_length}
 use Rattle.packet.specs.declared.Address.TheVariants.{Whole}
 use Rattle.packet.specs.declared.Header.{Header}
-use Rattle.packet.specs.declared.HeaderRead.TheVariants as header
 use Rattle.receiver.specs.Effects.{closing_word, taken, unclosed}
 use Rattle.receiver.specs.Kinds.{seen}
 use Rattle.receiver.specs.Selections.{matches}
@@ -24,7 +24,7 @@ module _ (receiver : Receiver) (packet lent : List ℕ) where
   abbrev ours : ℕ
   ours = receiver.selection.magazine
 
-  module _ (magazine row : ℕ) (address : address_of packet ≡ Whole magazine row) where
+  module _ (magazine row : ℕ) (address : address_of packet ≡ Ok (Whole magazine row)) where
     -- another magazine
     pub other-goes-by : (magazine ≡ ours → ⊥) → taken receiver packet lent ≡ unclosed receiver 0 lent
     other-goes-by differs = taken-another receiver packet lent (ap (seen ours) address ∙ sees-other ours magazine row differs)
@@ -48,7 +48,7 @@ module _ (receiver : Receiver) (packet lent : List ℕ) where
     header-seen : seen_by receiver packet lent ≡ OurHeader
     header-seen = ap (seen ours) zeroth ∙ sees-header ours
 
-    pub opens-page : (found : Header) → header_of packet ≡ header.Good found → matches receiver.selection found ≡ true
+    pub opens-page : (found : Header) → header_of packet ≡ Ok found → matches receiver.selection found ≡ true
         → Opens receiver packet lent (taken receiver packet lent)
     opens-page found read matched =
         record {

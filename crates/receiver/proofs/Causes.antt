@@ -6,16 +6,19 @@ use Prim.Native.Nat.{ℕ, zero, suc, ◌≤◌, ◌<◌}
 use native.Mathlib.Omega.{arith}
 use borrow.Author.Tests.{eq-eqb, le-leb, lt-leb, ne_eqb}
 use lib.Dec.{T, T_not, eqb, eqb→eq, eqb_refl, leb, leb→le, nleb→lt}
+use Rattle.std.specs.Prelude.{Result, Ok, Err}
 use Rattle.laws.proofs.Bools.{passed}
 use Rattle.laws.proofs.Keeps.{chosen, failed}
 use Rattle.grid.specs.Grid.{last_row}
 use Rattle.packet.specs.Addresses.{address_of}
 use Rattle.packet.specs.Headers.{header_of}
+use Rattle.packet.specs.Lines.{wrong_length}
 use Rattle.packet.specs.declared.Address.{Address}
-use Rattle.packet.specs.declared.Address.TheVariants.{First, Second, Unread, Whole, WrongLength}
+use Rattle.packet.specs.declared.Address.TheVariants.{First, Second, Unread, Whole}
+use Rattle.packet.specs.declared.WrongLength.{WrongLength}
 use Rattle.packet.specs.declared.Header.{Header}
-use Rattle.packet.specs.declared.HeaderRead.{HeaderRead}
-use Rattle.packet.specs.declared.HeaderRead.TheVariants as header
+use Rattle.packet.specs.declared.HeaderError.{HeaderError}
+use Rattle.packet.specs.declared.HeaderError.TheVariants as header
 use Rattle.receiver.specs.Kinds.{effect_due, effect_of, first_harmless, header_effect, seen, seen_ours, seen_whole}
 use Rattle.receiver.specs.Selections.{matches}
 use Rattle.receiver.specs.declared.Receiver.{Receiver}
@@ -28,35 +31,41 @@ use Rattle.receiver.specs.declared.kinds.Seen.TheVariants.{Another, OurRow, OurH
 -- ---- back: what was seen shows the address
 
 -- row 1 to the last of our magazine
-pub record OurText (ours : ℕ) (a : Address) (row : ℕ) : Type 0 where
-  pub from : a ≡ Whole ours row
+pub record OurText (ours : ℕ) (a : Result Address WrongLength) (row : ℕ) : Type 0 where
+  pub from : a ≡ Ok (Whole ours row)
   pub first : 1 ≤ row
   pub last : row ≤ last_row
 
 -- another's line
-pub data Anothers (ours : ℕ) (a : Address) : Type 0 where
+pub data Anothers (ours : ℕ) (a : Result Address WrongLength) : Type 0 where
   -- another magazine
-  other_magazine : (magazine row : ℕ) → a ≡ Whole magazine row → (magazine ≡ ours → ⊥) → Anothers ours a
+  other_magazine : (magazine row : ℕ) → a ≡ Ok (Whole magazine row) → (magazine ≡ ours → ⊥) → Anothers ours a
   -- a row past the last
-  late_row : (magazine row : ℕ) → a ≡ Whole magazine row → last_row < row → Anothers ours a
+  late_row : (magazine row : ℕ) → a ≡ Ok (Whole magazine row) → last_row < row → Anothers ours a
   -- a first message good and of another magazine
-  other_first : (magazine weight1 : ℕ) → a ≡ First magazine weight1 → (magazine ≡ ours → ⊥) → Anothers ours a
+  other_first : (magazine weight1 : ℕ) → a ≡ Ok (First magazine weight1) → (magazine ≡ ours → ⊥) → Anothers ours a
   -- a second message both of whose rows are such
-  harmless_second : (second : ℕ) → a ≡ Second second → first_harmless ≤ second → Anothers ours a
+  harmless_second : (second : ℕ) → a ≡ Ok (Second second) → first_harmless ≤ second → Anothers ours a
   -- no packet of 42 bytes
-  no_packet : a ≡ WrongLength → Anothers ours a
+  no_packet : a ≡ Err wrong_length → Anothers ours a
 
 -- an address message refused, that may be ours: whether it could be row 0 is what the good message shows
-pub data MayBeOurs (ours : ℕ) (a : Address) (could : Bool) : Type 0 where
-  first_good : (weight1 : ℕ) → a ≡ First ours weight1 → could ≡ eqb weight1 0 → MayBeOurs ours a could
-  second_good : (second : ℕ) → a ≡ Second second → second < first_harmless → could ≡ eqb second 0 → MayBeOurs ours a could
-  none_good : a ≡ Unread → could ≡ true → MayBeOurs ours a could
+pub data MayBeOurs (ours : ℕ) (a : Result Address WrongLength) (could : Bool) : Type 0 where
+  first_good : (weight1 : ℕ) → a ≡ Ok (First ours weight1) → could ≡ eqb weight1 0 → MayBeOurs ours a could
+  second_good : (second : ℕ) → a ≡ Ok (Second second) → second < first_harmless → could ≡ eqb second 0 → MayBeOurs ours a could
+  none_good : a ≡ Ok Unread → could ≡ true → MayBeOurs ours a could
 
-abbrev Origin : ℕ → Address → Seen → Type 0
+abbrev Origin : ℕ → Result Address WrongLength → Seen → Type 0
 Origin ours a Another = Anothers ours a
 Origin ours a (OurRow row) = OurText ours a row
-Origin ours a OurHeader = a ≡ Whole ours 0
+Origin ours a OurHeader = a ≡ Ok (Whole ours 0)
 Origin ours a (Unsure could) = MayBeOurs ours a could
+
+abbrev pub as_whole : ℕ → ℕ → Result Address WrongLength
+as_whole magazine row = Ok (Whole magazine row)
+
+abbrev pub as_first : ℕ → ℕ → Result Address WrongLength
+as_first magazine weight1 = Ok (First magazine weight1)
 
 not_zero : (n : ℕ) → T (not (eqb n 0)) → 1 ≤ n
 not_zero zero t = absurd t
@@ -66,22 +75,22 @@ not_equal : (m n : ℕ) → T (not (eqb m n)) → m ≡ n → ⊥
 not_equal m n t e = T_not (eqb m n) t (subst (λ (k : ℕ). T (eqb m k)) e (eqb_refl m))
 
 module _ (ours : ℕ) where
-  origin-whole : (magazine row : ℕ) → Origin ours (Whole magazine row) (seen_whole ours magazine row)
+  origin-whole : (magazine row : ℕ) → Origin ours (Ok (Whole magazine row)) (seen_whole ours magazine row)
   unfolding seen_whole seen_ours
   origin-whole magazine row =
       chosen P (eqb magazine ours) our_row Another
       (λ m.
       let same : magazine ≡ ours = eqb→eq magazine ours m in
       chosen P (eqb row 0) OurHeader late
-      (λ z. ap (λ (n : ℕ). Whole n row) same ∙ ap (Whole ours) (eqb→eq row 0 z))
+      (λ z. ap (λ (n : ℕ). as_whole n row) same ∙ ap (as_whole ours) (eqb→eq row 0 z))
       (λ z.
       chosen P (leb row last_row) (OurRow row) Another
-      (λ t. record { from = ap (λ (n : ℕ). Whole n row) same; first = not_zero row z; last = leb→le row last_row t })
+      (λ t. record { from = ap (λ (n : ℕ). as_whole n row) same; first = not_zero row z; last = leb→le row last_row t })
       (λ t. late_row magazine row refl (nleb→lt row last_row t))))
       (λ m. other_magazine magazine row refl (not_equal magazine ours m))
     where
       P : Seen → Type 0
-      P = Origin ours (Whole magazine row)
+      P = Origin ours (Ok (Whole magazine row))
 
       late : Seen
       late = cond (leb row last_row) (OurRow row) Another
@@ -89,57 +98,57 @@ module _ (ours : ℕ) where
       our_row : Seen
       our_row = cond (eqb row 0) OurHeader late
 
-  origin : (a : Address) → Origin ours a (seen ours a)
+  origin : (a : Result Address WrongLength) → Origin ours a (seen ours a)
   unfolding seen
-  origin (Whole magazine row) = origin-whole magazine row
-  origin (First magazine weight1) =
-      chosen (Origin ours (First magazine weight1)) (eqb magazine ours) (Unsure (eqb weight1 0)) Another
-      (λ m. first_good weight1 (ap (λ (n : ℕ). First n weight1) (eqb→eq magazine ours m)) refl)
+  origin (Ok (Whole magazine row)) = origin-whole magazine row
+  origin (Ok (First magazine weight1)) =
+      chosen (Origin ours (Ok (First magazine weight1))) (eqb magazine ours) (Unsure (eqb weight1 0)) Another
+      (λ m. first_good weight1 (ap (λ (n : ℕ). as_first n weight1) (eqb→eq magazine ours m)) refl)
       (λ m. other_first magazine weight1 refl (not_equal magazine ours m))
-  origin (Second second) =
-      chosen (Origin ours (Second second)) (leb first_harmless second) Another (Unsure (eqb second 0))
+  origin (Ok (Second second)) =
+      chosen (Origin ours (Ok (Second second))) (leb first_harmless second) Another (Unsure (eqb second 0))
       (λ h. harmless_second second refl (leb→le first_harmless second h))
       (λ h. second_good second refl (nleb→lt first_harmless second h) refl)
-  origin Unread = none_good refl refl
-  origin WrongLength = no_packet refl
+  origin (Ok Unread) = none_good refl refl
+  origin (Err short) = no_packet refl
 
   -- ---- and forth
 
-  pub sees-other : (magazine row : ℕ) → (magazine ≡ ours → ⊥) → seen ours (Whole magazine row) ≡ Another
+  pub sees-other : (magazine row : ℕ) → (magazine ≡ ours → ⊥) → seen ours (Ok (Whole magazine row)) ≡ Another
   unfolding seen seen_whole seen_ours
   sees-other magazine row other = rw (ne_eqb magazine ours other)
 
-  pub sees-late : (magazine row : ℕ) → last_row < row → seen ours (Whole magazine row) ≡ Another
+  pub sees-late : (magazine row : ℕ) → last_row < row → seen ours (Ok (Whole magazine row)) ≡ Another
   unfolding seen seen_whole seen_ours
   sees-late magazine row late =
       rw (ne_eqb row 0 (λ e. omega arith), lt-leb row last_row late)
       (chosen (λ (s : Seen). s ≡ Another) (eqb magazine ours) Another Another (λ t. refl) (λ t. refl))
 
-  pub sees-header : seen ours (Whole ours 0) ≡ OurHeader
+  pub sees-header : seen ours (Ok (Whole ours 0)) ≡ OurHeader
   unfolding seen seen_whole seen_ours
   sees-header = rw (eq-eqb ours ours refl)
 
-  pub sees-text : (row : ℕ) → 1 ≤ row → row ≤ last_row → seen ours (Whole ours row) ≡ OurRow row
+  pub sees-text : (row : ℕ) → 1 ≤ row → row ≤ last_row → seen ours (Ok (Whole ours row)) ≡ OurRow row
   unfolding seen seen_whole seen_ours
   sees-text row first last = rw (eq-eqb ours ours refl, ne_eqb row 0 (λ e. omega arith), le-leb row last_row last)
 
-  pub sees-first-other : (magazine weight1 : ℕ) → (magazine ≡ ours → ⊥) → seen ours (First magazine weight1) ≡ Another
+  pub sees-first-other : (magazine weight1 : ℕ) → (magazine ≡ ours → ⊥) → seen ours (Ok (First magazine weight1)) ≡ Another
   unfolding seen
   sees-first-other magazine weight1 other = rw (ne_eqb magazine ours other)
 
-  pub sees-first : (weight1 : ℕ) → seen ours (First ours weight1) ≡ Unsure (eqb weight1 0)
+  pub sees-first : (weight1 : ℕ) → seen ours (Ok (First ours weight1)) ≡ Unsure (eqb weight1 0)
   unfolding seen
   sees-first weight1 = rw (eq-eqb ours ours refl)
 
-  pub sees-harmless : (second : ℕ) → first_harmless ≤ second → seen ours (Second second) ≡ Another
+  pub sees-harmless : (second : ℕ) → first_harmless ≤ second → seen ours (Ok (Second second)) ≡ Another
   unfolding seen
   sees-harmless second h = rw (le-leb first_harmless second h)
 
-  pub sees-second : (second : ℕ) → second < first_harmless → seen ours (Second second) ≡ Unsure (eqb second 0)
+  pub sees-second : (second : ℕ) → second < first_harmless → seen ours (Ok (Second second)) ≡ Unsure (eqb second 0)
   unfolding seen
   sees-second second h = rw (lt-leb first_harmless second h)
 
-  pub sees-unread : seen ours Unread ≡ Unsure true
+  pub sees-unread : seen ours (Ok Unread) ≡ Unsure true
   unfolding seen
   sees-unread = refl
 
@@ -151,26 +160,26 @@ module _ (receiver : Receiver) (packet : List ℕ) where
 
   -- our row 0
   abbrev pub OursZero : Type 0
-  OursZero = address_of packet ≡ Whole ours 0
+  OursZero = address_of packet ≡ Ok (Whole ours 0)
 
   pub data Cause : Effect → Type 0 where
     another : Anothers ours (address_of packet) → Cause Nothing
     unopened-row : (row : ℕ) → OurText ours (address_of packet) row → receiver.«open» ≡ false → Cause Nothing
-    no_header : OursZero → header_of packet ≡ header.WrongLength → Cause Nothing
+    no_header : OursZero → header_of packet ≡ Err header.WrongLength → Cause Nothing
     page-row : (row : ℕ) → OurText ours (address_of packet) row → receiver.«open» ≡ true → Cause (Store row)
-    page-header : (found : Header) → OursZero → header_of packet ≡ header.Good found → matches receiver.selection found ≡ true → Cause (Open found)
-    other-header : (found : Header) → OursZero → header_of packet ≡ header.Good found → matches receiver.selection found ≡ false → Cause (Close 3)
-    spoiled-header : OursZero → header_of packet ≡ header.Spoiled → Cause (Close 5)
+    page-header : (found : Header) → OursZero → header_of packet ≡ Ok found → matches receiver.selection found ≡ true → Cause (Open found)
+    other-header : (found : Header) → OursZero → header_of packet ≡ Ok found → matches receiver.selection found ≡ false → Cause (Close 3)
+    spoiled-header : OursZero → header_of packet ≡ Err header.Spoiled → Cause (Close 5)
     unsure-line : (could : Bool) → MayBeOurs ours (address_of packet) could → Cause (Doubt could)
 
-  header-cause : OursZero → (read : HeaderRead) → header_of packet ≡ read → Cause (header_effect receiver.selection read)
+  header-cause : OursZero → (read : Result Header HeaderError) → header_of packet ≡ read → Cause (header_effect receiver.selection read)
   unfolding header_effect
-  header-cause a (header.Good found) e =
+  header-cause a (Ok found) e =
       chosen Cause (matches receiver.selection found) (Open found) (Close 3)
       (λ m. page-header found a e (passed (matches receiver.selection found) m))
       (λ m. other-header found a e (failed (matches receiver.selection found) m))
-  header-cause a header.Spoiled e = spoiled-header a e
-  header-cause a header.WrongLength e = no_header a e
+  header-cause a (Err header.Spoiled) e = spoiled-header a e
+  header-cause a (Err header.WrongLength) e = no_header a e
 
   by-seen : (s : Seen) → Origin ours (address_of packet) s → Cause (effect_of receiver.selection receiver.«open» s (header_of packet))
   unfolding effect_of
@@ -202,7 +211,7 @@ module _ (receiver : Receiver) (packet : List ℕ) where
   unfolding effect_of
   due-row {row} e o = due-by e ∙ ap (λ (b : Bool). cond b (Store row) Nothing) o
 
-  pub due-header : {read : HeaderRead} → seen ours (address_of packet) ≡ OurHeader → header_of packet ≡ read
+  pub due-header : {read : Result Header HeaderError} → seen ours (address_of packet) ≡ OurHeader → header_of packet ≡ read
       → effect_due receiver packet ≡ header_effect receiver.selection read
   unfolding effect_of
   due-header e r = due-by e ∙ ap (header_effect receiver.selection) r
@@ -213,6 +222,6 @@ module _ (receiver : Receiver) (packet : List ℕ) where
 
 -- a header that was read, by whether it is the selected page's
 pub header_effect_law : (selection : Selection) (found : Header) {is : Bool} → matches selection found ≡ is
-    → header_effect selection (header.Good found) ≡ cond is (Open found) (Close 3)
+    → header_effect selection (Ok found) ≡ cond is (Open found) (Close 3)
 unfolding header_effect
 header_effect_law selection found e = ap (λ (b : Bool). cond b (Open found) (Close 3)) e

@@ -1,7 +1,7 @@
--- From what the code did to a receiver whose cells lie apart to the outcome that the definition gives.
-use mathlib.Core.Path.{◌≡◌, refl, sym, ap, ap₂, ◌∙◌, subst}
-use mathlib.Core.Bool.{Bool, true, false, cond, ◌||◌}
-use mathlib.Core.List.{List, []}
+-- From what the code did to a receiver to the outcome that the definition gives.
+use mathlib.Core.Path.{◌≡◌, sym, ap, ap₂, ◌∙◌, subst}
+use mathlib.Core.Bool.{Bool, true, cond, ◌||◌}
+use mathlib.Core.List.{List}
 use Prim.Native.Nat.{ℕ, ◌-◌}
 use lib.Dec.{T, ltb}
 use lib.ListN.{length}
@@ -10,56 +10,22 @@ use Rattle.grid.specs.Grid.{columns}
 use Rattle.packet.specs.declared.Header.{Header}
 use Rattle.page.specs.declared.Cells.{Cells}
 use Rattle.receiver.specs.Cells.{first_column, how_many, one_missing, row_found, stored}
-use Rattle.receiver.specs.Effects.{Outcome, closed, doubted, effected, just_closed, opened, opening_cells, row_stored, shut, text_taken, unclosed, unsure_taken}
+use Rattle.receiver.specs.Effects.{Outcome, closed, doubted, just_closed, opened, opening_cells, row_stored, shut, unclosed, unsure_taken}
 use Rattle.receiver.specs.Entries.{lawful}
 use Rattle.receiver.specs.Kinds.{effect_due}
-use Rattle.receiver.specs.Private.{Does, Ready, Storable, done_of, joined, standing_of}
-use Rattle.receiver.specs.declared.Closing.TheVariants.{None}
+use Rattle.receiver.specs.Private.{Does, Ready, Storable}
 use Rattle.receiver.specs.declared.Receiver.{Receiver}
 use Rattle.receiver.specs.declared.effects.Done.{Done}
-use Rattle.receiver.specs.declared.effects.Standing.{Standing}
 use Rattle.receiver.specs.declared.kinds.Effect.{Effect}
 use Rattle.receiver.proofs.Causes.{Cause, another, caused, no_header, other-header, page-header, page-row, spoiled-header, unopened-row, unsure-line}
 use Rattle.receiver.proofs.Laying.{missing_is}
 use Rattle.receiver.proofs.Lawful.{doubted_lawful}
-use Rattle.receiver.proofs.Resting.{closed-rests}
+use Rattle.receiver.proofs.Resting.{closed_rests}
 use Rattle.receiver.proofs.Rows.{length_found}
 
--- what was shown of one outcome holds of an equal one
-pub does : {o p : Outcome} (done : Done) {characters marks lent : List ℕ} → o ≡ p → Does o done characters marks lent → Does p done characters marks lent
-does done {characters} {marks} {lent} e d = subst (λ (o : Outcome). Does o done characters marks lent) e d
-
--- and what was shown of one effect holds of the same
-pub does_by : (receiver : Receiver) (bytes lent : List ℕ) {given known : Effect} → given ≡ known → (done : Done) {characters marks left : List ℕ}
-    → Does (effected receiver known bytes lent) done characters marks left → Does (effected receiver given bytes lent) done characters marks left
-does_by receiver bytes lent e done d = does done (ap (λ (x : Effect). effected receiver x bytes lent) (sym e)) d
-
 -- a lawful receiver, as the laws have it
-pub ready_lawful : {standing : Standing} {characters marks lent : List ℕ} → Ready standing characters marks lent → T (lawful (joined standing characters marks))
+pub ready_lawful : {receiver : Receiver} {lent : List ℕ} → Ready receiver lent → T (lawful receiver)
 ready_lawful ready = rw ready.right tt
-
--- ---- nothing closed
-
-pub unclosed_does : (standing : Standing) (kind : ℕ) (done : Done) (characters marks lent : List ℕ) → done ≡ done_of standing kind 0 None
-    → Does (unclosed (joined standing characters marks) kind lent) done characters marks lent
-unfolding unclosed
-unclosed_does standing kind done characters marks lent e =
-    record {
-      kept = ap (λ (d : Done). joined d.standing characters marks) e;
-      kind = ap (λ (d : Done). d.kind) e;
-      count = ap (λ (d : Done). d.count) e;
-      word = ap (λ (d : Done). d.closing) e;
-      left = refl;
-    }
-
--- ---- closing
-
--- for a lawful receiver closing is shutting
-pub shut_joined : (standing : Standing) (characters marks : List ℕ) → T (lawful (joined standing characters marks)) → (after : Standing)
-    → after ≡ standing_of (shut (joined standing [] [])) → joined after characters marks ≡ closed (joined standing characters marks)
-unfolding shut
-shut_joined standing characters marks is after e =
-    ap (λ (s : Standing). joined s characters marks) e ∙ sym (closed-rests (joined standing characters marks) is)
 
 -- ---- a row
 
@@ -96,43 +62,26 @@ pub header_joined : (receiver : Receiver) → T (lawful receiver) → (header : 
 unfolding shut opened
 header_joined receiver is header bytes missing cells m e =
     row-joined (opened (shut receiver) header) 0 bytes missing cells m e
-    ∙ ap (λ (r : Receiver). row_stored (opened r header) 0 bytes) (sym (closed-rests receiver is))
-
--- a line that touches no record leaves any record as it is
-pub text_left : (receiver : Receiver) (row : ℕ) (bytes : List ℕ) (done : Done) (characters marks lent : List ℕ)
-    → Does (text_taken receiver row bytes []) done characters marks [] → Does (text_taken receiver row bytes lent) done characters marks lent
-unfolding text_taken
-text_left receiver row bytes done characters marks lent d =
-    record { kept = d.kept; kind = d.kind; count = d.count; word = d.word; left = refl }
+    ∙ ap (λ (r : Receiver). row_stored (opened r header) 0 bytes) (sym (closed_rests receiver is))
 
 -- ---- doubt
 
-module _ (receiver : Receiver) (could : Bool) (lent : List ℕ) where
-  abbrev by_tests : Bool → Bool → Outcome
-  by_tests is_open closes =
-      cond is_open (cond closes (just_closed (doubted receiver) 4 lent) (unclosed (doubted receiver) 4 lent)) (unclosed receiver 4 lent)
-
-  pub unsure-closes : receiver.«open» ≡ true → could ≡ true → just_closed (doubted receiver) 4 lent ≡ unsure_taken receiver could lent
-  unfolding unsure_taken
-  unsure-closes o c = sym (ap₂ by_tests o c)
-
-  pub unsure-stays : receiver.«open» ≡ true → could ≡ false → unclosed (doubted receiver) 4 lent ≡ unsure_taken receiver could lent
-  unfolding unsure_taken
-  unsure-stays o c = sym (ap₂ by_tests o c)
-
-  pub unsure-rests : receiver.«open» ≡ false → unclosed receiver 4 lent ≡ unsure_taken receiver could lent
-  unfolding unsure_taken
-  unsure-rests o = sym (ap (λ (b : Bool). by_tests b could) o)
+-- where a page is open and the line could have been row 0
+pub unsure_closes : (receiver : Receiver) (could : Bool) (lent : List ℕ) → receiver.«open» ≡ true → could ≡ true → {done : Done} {after : Receiver} {left : List ℕ}
+    → Does (just_closed (doubted receiver) 4 lent) done after left → Does (unsure_taken receiver could lent) done after left
+unfolding unsure_taken
+unsure_closes receiver could lent o c {done} {after} {left} d = subst (λ (outcome : Outcome). Does outcome done after left) (sym (ap₂ by_tests o c)) d
+  where
+    by_tests : Bool → Bool → Outcome
+    by_tests is_open closes =
+        cond is_open (cond closes (just_closed (doubted receiver) 4 lent) (unclosed (doubted receiver) 4 lent)) (unclosed receiver 4 lent)
 
 -- an open page stays ready in doubt
-pub ready_doubted : (standing : Standing) (characters marks lent : List ℕ) → Ready standing characters marks lent → standing.is_open ≡ true
-    → Ready (standing_of (doubted (joined standing characters marks))) characters marks lent
+pub ready_doubted : (receiver : Receiver) (lent : List ℕ) → Ready receiver lent → receiver.«open» ≡ true → Ready (doubted receiver) lent
 unfolding doubted
-ready_doubted standing characters marks lent ready o =
+ready_doubted receiver lent ready o =
     record {
-      right = passed (lawful (doubted (joined standing characters marks))) (doubted_lawful (joined standing characters marks) (ready_lawful ready) (rw o tt));
-      all_characters = ready.all_characters;
-      all_marks = ready.all_marks;
+      right = passed (lawful (doubted receiver)) (doubted_lawful receiver (ready_lawful ready) (rw o tt));
       room = ready.room;
     }
 

@@ -8,12 +8,13 @@ use native.Mathlib.Omega.{arith}
 use borrow.Author.Tests.{eq-eqb, le-ltb, ltb-false}
 use lib.Dec.{T, eqb, ltb}
 use lib.ListN.{length}
+use Rattle.std.specs.Prelude.{Result, Ok, Err, ⊤}
 use Rattle.laws.proofs.Bools.{passed}
 use Rattle.laws.proofs.Keeps.{chosen, failed}
 use Rattle.laws.proofs.Lists.{length_part}
 use Rattle.packet.specs.Lines.{framed, packet_length, packet_of, packet_part, packet_place}
-use Rattle.packet.specs.declared.Framed.{Framed}
-use Rattle.packet.specs.declared.Framed.TheVariants as framed
+use Rattle.packet.specs.declared.LineError.{LineError}
+use Rattle.packet.specs.declared.LineError.TheVariants as unframed
 use Rattle.packet.proofs.Whole.{whole_line}
 use Rattle.page.specs.Records.{record_length}
 use Rattle.receiver.specs.Entries.{Entered, asked, entered, lawful, line_by, line_entered, packet_entered, packet_gives, packet_taken, refusal}
@@ -22,10 +23,10 @@ use Rattle.receiver.specs.declared.Receiver.{Receiver}
 use Rattle.receiver.proofs.Lawful.{taken-lawful}
 
 -- the packet of a framed line has 42 bytes
-pub length_packet : (line : List ℕ) → framed line ≡ framed.Packet → length (packet_of line) ≡ packet_length
+pub length_packet : (line : List ℕ) → framed line ≡ Ok tt → length (packet_of line) ≡ packet_length
 unfolding packet_of packet_part
 length_packet line e =
-    ap (λ (f : Framed). length (packet_part f line)) e ∙ length_part line packet_place packet_length (omega (arith, whole_line line e))
+    ap (λ (f : Result ⊤ LineError). length (packet_part f line)) e ∙ length_part line packet_place packet_length (omega (arith, whole_line line e))
 
 -- ---- refused, a call changes nothing; else the packet is taken
 
@@ -51,11 +52,11 @@ module _ (receiver : Receiver) (lent : List ℕ) (P : Receiver → List ℕ → 
   packet-taken-kept packet after =
       chosen Kept (eqb (length packet) packet_length) (packet_gives receiver packet lent) (refusal 10 receiver lent) (λ t. after) (λ t. refusal-kept 10)
 
-  line-by-kept : (f : Framed) (line : List ℕ) → Kept (packet_gives receiver (packet_of line) lent) → Kept (line_by f receiver line lent)
+  line-by-kept : (f : Result ⊤ LineError) (line : List ℕ) → Kept (packet_gives receiver (packet_of line) lent) → Kept (line_by f receiver line lent)
   unfolding line_by
-  line-by-kept framed.Packet line after = packet-taken-kept (packet_of line) after
-  line-by-kept framed.WrongLength line after = refusal-kept 10
-  line-by-kept framed.WrongFraming line after = refusal-kept 11
+  line-by-kept (Ok fine) line after = packet-taken-kept (packet_of line) after
+  line-by-kept (Err unframed.WrongLength) line after = refusal-kept 10
+  line-by-kept (Err unframed.WrongFraming) line after = refusal-kept 11
 
   -- what a packet does, where it is taken
   abbrev Taken : List ℕ → Type 0
@@ -96,14 +97,14 @@ module _ (receiver : Receiver) (is : T (lawful receiver)) (lent : List ℕ) wher
     unfolding packet_entered packet_taken
     packet-is-taken packet e = asked_is (packet_taken receiver packet lent) ∙ rw (eq-eqb (length packet) packet_length e)
 
-    pub line-is-taken : (line : List ℕ) → framed line ≡ framed.Packet → line_entered receiver line lent ≡ packet_gives receiver (packet_of line) lent
+    pub line-is-taken : (line : List ℕ) → framed line ≡ Ok tt → line_entered receiver line lent ≡ packet_gives receiver (packet_of line) lent
     unfolding line_entered line_by packet_taken
     line-is-taken line e =
         asked_is (line_by (framed line) receiver line lent)
-        ∙ (ap (λ (f : Framed). line_by f receiver line lent) e ∙ rw (eq-eqb (length (packet_of line)) packet_length (length_packet line e)))
+        ∙ (ap (λ (f : Result ⊤ LineError). line_by f receiver line lent) e ∙ rw (eq-eqb (length (packet_of line)) packet_length (length_packet line e)))
 
 -- the packet of a line whose framing passes does what the line does
-pub packet_of_line : (receiver : Receiver) (line lent : List ℕ) → framed line ≡ framed.Packet
+pub packet_of_line : (receiver : Receiver) (line lent : List ℕ) → framed line ≡ Ok tt
     → packet_entered receiver (packet_of line) lent ≡ line_entered receiver line lent
 unfolding packet_entered line_entered line_by
-packet_of_line receiver line lent passes = ap (λ (f : Framed). asked receiver lent (line_by f receiver line lent)) (sym passes)
+packet_of_line receiver line lent passes = ap (λ (f : Result ⊤ LineError). asked receiver lent (line_by f receiver line lent)) (sym passes)

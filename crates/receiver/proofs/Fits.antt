@@ -6,6 +6,7 @@ use Prim.Native.Nat.{ℕ, zero, suc, ◌<◌}
 use native.Mathlib.Nat.{mod-lt, zero-lt-suc}
 use lib.Dec.{T, eqb, lit<}
 use lib.ListN.{get_or, length}
+use Rattle.std.specs.Prelude.{Result, Ok, Err}
 use Rattle.laws.proofs.Digits.{AreBits, binary_below, bits_append}
 use Rattle.laws.proofs.Keeps.{chosen, fit_passes}
 use Rattle.laws.specs.Digits.{bit}
@@ -14,8 +15,8 @@ use Rattle.coding.proofs.Hamming.{Small, small}
 use Rattle.packet.specs.Headers.{all_good, before, control_bytes, control_of, header_from, header_messages, header_of, header_or, header_values, lowest_first}
 use Rattle.packet.specs.Lines.{packet_length}
 use Rattle.packet.specs.declared.Header.{Header}
-use Rattle.packet.specs.declared.HeaderRead.{HeaderRead}
-use Rattle.packet.specs.declared.HeaderRead.TheVariants.{Good, Spoiled, WrongLength}
+use Rattle.packet.specs.declared.HeaderError.{HeaderError}
+use Rattle.packet.specs.declared.HeaderError.TheVariants.{Spoiled, WrongLength}
 use Rattle.page.specs.Lawful.{header_fits}
 use Rattle.page.specs.Records.{header_widths}
 
@@ -82,10 +83,10 @@ from_fits messages s =
     )
 
 -- what was read fits, where it is a header
-abbrev FitsRead : HeaderRead → Type 0
-FitsRead (Good header) = T (header_fits header)
-FitsRead Spoiled = Unit {0}
-FitsRead WrongLength = Unit {0}
+abbrev FitsRead : Result Header HeaderError → Type 0
+FitsRead (Ok header) = T (header_fits header)
+FitsRead (Err Spoiled) = Unit {0}
+FitsRead (Err WrongLength) = Unit {0}
 
 or_fits : (found : Option (List ℕ)) → AllSmall found → FitsRead (header_or found)
 unfolding header_or
@@ -95,9 +96,9 @@ or_fits (some messages) s = from_fits messages s
 read_fits : (packet : List ℕ) → FitsRead (header_of packet)
 unfolding header_of header_messages
 read_fits packet =
-    chosen FitsRead (eqb (length packet) packet_length) (header_or (all_good (header_messages packet))) WrongLength
+    chosen FitsRead (eqb (length packet) packet_length) (header_or (all_good (header_messages packet))) (Err WrongLength)
     (λ t. or_fits (all_good (header_messages packet)) (messages_small (control_bytes packet)))
     (λ t. tt)
 
-pub header_fits_law : (packet : List ℕ) (found : Header) → header_of packet ≡ Good found → T (header_fits found)
+pub header_fits_law : (packet : List ℕ) (found : Header) → header_of packet ≡ Ok found → T (header_fits found)
 header_fits_law packet found e = subst FitsRead e (read_fits packet)

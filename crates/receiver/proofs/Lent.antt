@@ -5,10 +5,11 @@ use mathlib.Core.List.{List}
 use Prim.Native.Nat.{ℕ}
 use lib.Dec.{eqb, ltb}
 use lib.ListN.{length}
+use Rattle.std.specs.Prelude.{Result, Ok, Err, ⊤}
 use Rattle.packet.specs.Lines.{framed, packet_length, packet_of}
 use Rattle.packet.specs.Texts.{text_of}
-use Rattle.packet.specs.declared.Framed.{Framed}
-use Rattle.packet.specs.declared.Framed.TheVariants as framed
+use Rattle.packet.specs.declared.LineError.{LineError}
+use Rattle.packet.specs.declared.LineError.TheVariants as unframed
 use Rattle.page.specs.Records.{record_length}
 use Rattle.receiver.specs.Effects.{Outcome, doubted, effected, header_taken, just_closed, taken, text_taken, unclosed, unsure_taken}
 use Rattle.receiver.specs.Entries.{Entered, asked, entered, lawful, line_by, line_entered, packet_gives, packet_taken, refusal}
@@ -56,11 +57,11 @@ module _ (receiver : Receiver) (lent other : List ℕ) where
   packet-free packet true = taken_free packet (packet_mended receiver packet)
   packet-free packet false = (refl, refl)
 
-  framed-free : (line : List ℕ) (f : Framed) → SameButLent (line_by f receiver line lent) (line_by f receiver line other)
+  framed-free : (line : List ℕ) (f : Result ⊤ LineError) → SameButLent (line_by f receiver line lent) (line_by f receiver line other)
   unfolding line_by packet_taken refusal
-  framed-free line framed.Packet = packet-free (packet_of line) (eqb (length (packet_of line)) packet_length)
-  framed-free line framed.WrongLength = (refl, refl)
-  framed-free line framed.WrongFraming = (refl, refl)
+  framed-free line (Ok fine) = packet-free (packet_of line) (eqb (length (packet_of line)) packet_length)
+  framed-free line (Err unframed.WrongLength) = (refl, refl)
+  framed-free line (Err unframed.WrongFraming) = (refl, refl)
 
   asked-free : (further another : Entered) → SameButLent further another → (is_lawful short : Bool)
       → SameButLent (cond is_lawful (cond short (refusal 12 receiver lent) further) (refusal 18 receiver lent))

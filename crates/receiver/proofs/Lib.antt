@@ -5,6 +5,7 @@ pub mod Causes
 pub mod Changes
 pub mod Closings
 pub mod Counts
+pub mod Cut
 pub mod Doing
 pub mod Entering
 pub mod Fits

@@ -7,6 +7,7 @@ use native.Mathlib.Nat.{add-zero, zero-add}
 use native.Mathlib.Omega.{arith}
 use lib.Dec.{eqb, leb, lit≤}
 use lib.ListN.{length, get_or}
+use Rattle.std.specs.Prelude.{Option, Ok, Result}
 use Rattle.laws.proofs.Keeps.{either}
 use Rattle.coding.specs.Bits.{turned_byte}
 use Rattle.coding.specs.Hamming.{how_many_corrected}
@@ -19,11 +20,11 @@ use Rattle.packet.specs.Texts.{header_column}
 use Rattle.packet.specs.Writing.{address_length, header_length}
 use Rattle.packet.specs.declared.Address.{Address}
 use Rattle.packet.specs.declared.Address.TheVariants.{Whole}
+use Rattle.packet.specs.declared.WrongLength.{WrongLength}
 use Rattle.packet.proofs.Bytes.{bytes_more, length_bytes}
 use Rattle.receiver.specs.Entries.{answer_paper}
 use Rattle.receiver.specs.Kinds.{seen, seen_ours, seen_whole}
 use Rattle.receiver.specs.Mended.{address_pair, brought, brought_by, examined, is_own, mended_in, none_mended, packet_mended, summed}
-use Rattle.receiver.specs.declared.Answer.TheVariants.{Taken}
 use Rattle.receiver.specs.declared.Closing.{Closing}
 use Rattle.receiver.specs.declared.Mended.{Mended}
 use Rattle.receiver.specs.declared.Receiver.{Receiver}
@@ -86,19 +87,20 @@ examined_by true false true row packet = sym (append-nil (address_pair packet))
 examined_by true false false row packet = sym (append-nil (address_pair packet))
 examined_by false zeroth inside row packet = sym (append-nil (address_pair packet))
 
-pub mended_whole : (receiver : Receiver) (packet : List ℕ) (magazine row : ℕ) → address_of packet ≡ Whole magazine row
+pub mended_whole : (receiver : Receiver) (packet : List ℕ) (magazine row : ℕ) → address_of packet ≡ Ok (Whole magazine row)
     → packet_mended receiver packet
     ≡ how_many_corrected (address_pair packet ++ cond (eqb magazine receiver.selection.magazine && eqb row 0) (control_bytes packet) [])
 unfolding packet_mended mended_in seen seen_whole seen_ours
 mended_whole receiver packet magazine row e =
     let ours = receiver.selection.magazine in
-    ap (λ (a : Address). mended_in (seen ours a) packet) e
+    ap (λ (a : Result Address WrongLength). mended_in (seen ours a) packet) e
     ∙ ap how_many_corrected (examined_by (eqb magazine ours) (eqb row 0) (leb row last_row) row packet)
 
 -- ---- sums
 
 -- what a line that is taken adds
-pub brought_is : (kind count : ℕ) (word : Closing) (mended : ℕ) → brought_by (answer_paper (Taken kind count word mended)) ≡ brought kind mended
+pub brought_is : (kind count : ℕ) (word : Option Closing) (mended : ℕ)
+    → brought_by (answer_paper (Ok (record { kind = kind; count = count; closing = word; mended = mended }))) ≡ brought kind mended
 unfolding brought_by answer_paper
 brought_is kind count word mended = refl
 

@@ -5,13 +5,14 @@ use mathlib.Core.Bool.{Bool, true, false}
 use mathlib.Core.List.{List}
 use Prim.Native.Nat.{ℕ, zero, suc, ◌≤◌}
 use lib.Dec.{lit≤}
+use Rattle.std.specs.Prelude.{Ok, Err}
 use Rattle.laws.proofs.Bools.{passed}
 use Rattle.laws.proofs.Keeps.{chosen, failed}
 use Rattle.packet.specs.Addresses.{address_of}
 use Rattle.packet.specs.Headers.{header_of}
 use Rattle.packet.specs.Texts.{text_of}
 use Rattle.packet.specs.declared.Header.{Header}
-use Rattle.packet.specs.declared.HeaderRead.TheVariants as header
+use Rattle.packet.specs.declared.HeaderError.TheVariants as header
 use Rattle.receiver.specs.Effects.{Outcome, doubted, effected, header_taken, just_closed, taken, text_taken, unclosed, unsure_taken}
 use Rattle.receiver.specs.Kinds.{effect_due, header_effect, seen}
 use Rattle.receiver.specs.Selections.{matches}
@@ -68,7 +69,7 @@ pub record Stores (receiver : Receiver) (packet lent : List ℕ) (outcome : Outc
 pub record Opens (receiver : Receiver) (packet lent : List ℕ) (outcome : Outcome) : Type 0 where
   pub found : Header
   pub ours : OursZero receiver packet
-  pub read : header_of packet ≡ header.Good found
+  pub read : header_of packet ≡ Ok found
   pub matched : matches receiver.selection found ≡ true
   pub gives : outcome ≡ header_taken receiver found (text_of packet).bytes lent
 
@@ -76,7 +77,7 @@ pub record Opens (receiver : Receiver) (packet lent : List ℕ) (outcome : Outco
 pub record Others (receiver : Receiver) (packet lent : List ℕ) (outcome : Outcome) : Type 0 where
   pub found : Header
   pub ours : OursZero receiver packet
-  pub read : header_of packet ≡ header.Good found
+  pub read : header_of packet ≡ Ok found
   pub unmatched : matches receiver.selection found ≡ false
   pub gives : outcome ≡ just_closed receiver 3 lent
 
@@ -89,7 +90,7 @@ pub record Unsures (receiver : Receiver) (packet lent : List ℕ) (outcome : Out
 -- kind 5: our row 0, spoiled
 pub record Spoils (receiver : Receiver) (packet lent : List ℕ) (outcome : Outcome) : Type 0 where
   pub ours : OursZero receiver packet
-  pub read : header_of packet ≡ header.Spoiled
+  pub read : header_of packet ≡ Err header.Spoiled
   pub gives : outcome ≡ just_closed receiver 5 lent
 
 -- an unsure line is of kind 4, whatever it does
@@ -173,18 +174,18 @@ module _ (receiver : Receiver) (packet lent : List ℕ) where
   unfolding effected
   taken-text e o = taken-due receiver packet lent (due-row receiver packet e o)
 
-  pub taken-opens : (found : Header) → seen_by ≡ OurHeader → header_of packet ≡ header.Good found
+  pub taken-opens : (found : Header) → seen_by ≡ OurHeader → header_of packet ≡ Ok found
       → matches receiver.selection found ≡ true → taken receiver packet lent ≡ header_taken receiver found (text_of packet).bytes lent
   unfolding effected
   taken-opens found e r m =
       taken-due receiver packet lent (due-header receiver packet e r ∙ header_effect_law receiver.selection found m)
 
-  pub taken-other : (found : Header) → seen_by ≡ OurHeader → header_of packet ≡ header.Good found
+  pub taken-other : (found : Header) → seen_by ≡ OurHeader → header_of packet ≡ Ok found
       → matches receiver.selection found ≡ false → taken receiver packet lent ≡ just_closed receiver 3 lent
   unfolding effected
   taken-other found e r m =
       taken-due receiver packet lent (due-header receiver packet e r ∙ header_effect_law receiver.selection found m)
 
-  pub taken-spoiled : seen_by ≡ OurHeader → header_of packet ≡ header.Spoiled → taken receiver packet lent ≡ just_closed receiver 5 lent
+  pub taken-spoiled : seen_by ≡ OurHeader → header_of packet ≡ Err header.Spoiled → taken receiver packet lent ≡ just_closed receiver 5 lent
   unfolding effected header_effect
   taken-spoiled e r = taken-due receiver packet lent (due-header receiver packet e r)

@@ -9,10 +9,11 @@ use native.Mathlib.Omega.{arith}
 use borrow.Author.Tests.{eq-eqb, ne_eqb}
 use lib.ListN.{length, take, drop, length-drop}
 use lib.Seq.{drop-drop}
+use Rattle.std.specs.Prelude.{None, Some}
 use Rattle.laws.specs.Digits.{most_counted}
 use Rattle.laws.specs.Paper.{Paper}
 use Rattle.laws.proofs.Bools.{passed}
-use Rattle.laws.proofs.Lists.{drop_min, take_min}
+use Rattle.laws.proofs.Lists.{drop_min}
 use Rattle.packet.specs.Lines.{framed, line_length}
 use Rattle.page.specs.Records.{record_length}
 use Rattle.receiver.specs.Entries.{Entered, Meets, answer_paper, lawful, line_by, line_entered}
@@ -20,7 +21,6 @@ use Rattle.receiver.specs.Mended.{brought_by, none_mended, summed}
 use Rattle.receiver.specs.Private.{Holds}
 use Rattle.receiver.specs.Recordings.{Playing, PlaysAs, ended, goes_on, played, played_paper, playing, stopped_at}
 use Rattle.receiver.specs.declared.Mended.{Mended}
-use Rattle.receiver.specs.declared.Played.TheVariants.{End, Stopped}
 use Rattle.receiver.specs.declared.Receiver.{Receiver}
 use Rattle.receiver.specs.declared.Recorded.{Recorded}
 use Rattle.receiver.specs.declared.Stepped.{Stepped}
@@ -67,7 +67,7 @@ plays_as r lent e m = subst (λ (x : Playing). PlaysAs x r lent) e m
 module _ (receiver : Receiver) (recording lent : List ℕ) where
   -- nothing to play
   pub plays-nothing : length recording ≡ 0
-      → PlaysAs (played receiver recording lent) (record { receiver = receiver; used = 0; mended = none_mended; answer = End }) lent
+      → PlaysAs (played receiver recording lent) (record { receiver = receiver; used = 0; mended = none_mended; answer = None }) lent
   unfolding played ended played_paper
   plays-nothing e =
       plays_as _ lent (sym (turn-ends receiver recording lent 0 none_mended (length recording) e))
@@ -76,7 +76,7 @@ module _ (receiver : Receiver) (recording lent : List ℕ) where
   -- the first line refused
   pub first_stops : (length recording ≡ 0 → ⊥) → (s : Stepped) (left : List ℕ) → Meets (entry receiver recording lent) s left
       → goes_on (answer_paper s.answer) ≡ false → brought_by (answer_paper s.answer) ≡ none_mended
-      → PlaysAs (played receiver recording lent) (record { receiver = s.receiver; used = 1; mended = none_mended; answer = Stopped s.answer }) left
+      → PlaysAs (played receiver recording lent) (record { receiver = s.receiver; used = 1; mended = none_mended; answer = Some s.answer }) left
   unfolding played stopped_at played_paper
   first_stops d s left m g nothing =
       plays_as _ left
@@ -122,10 +122,15 @@ turning_starts receiver recording lent right room =
       same = refl;
     }
 
+pub turning_at : {recording record₀ : List ℕ} {receiver : Receiver} {lent : List ℕ} {current : Receiver} {at same used : ℕ} {so : Mended} → same ≡ at
+    → Turning recording record₀ receiver lent current at used so → Turning recording record₀ receiver lent current same used so
+turning_at {recording} {record₀} {receiver} {lent} {current} {at} {same} {used} {so} e t =
+    subst (λ (k : ℕ). Turning recording record₀ receiver lent current k used so) (sym e) t
+
 module _ {recording record₀ : List ℕ} {receiver : Receiver} {lent : List ℕ} {current : Receiver} {at used : ℕ} {so : Mended}
     (t : Turning recording record₀ receiver lent current at used so) where
   pub turning-ends : length recording ≤ at
-      → PlaysAs (played receiver recording record₀) (record { receiver = current; used = used; mended = so; answer = End }) lent
+      → PlaysAs (played receiver recording record₀) (record { receiver = current; used = used; mended = so; answer = None }) lent
   unfolding ended played_paper
   turning-ends h =
       plays_as _ lent
@@ -145,9 +150,6 @@ module _ {recording record₀ : List ℕ} {receiver : Receiver} {lent : List ℕ
     by-rest : size ≡ min line_length (length (drop at recording))
     by-rest = sized ∙ ap (min line_length) (sym (length-drop at recording))
 
-    the-line : (part : ℕ) → part ≡ size → take part (drop at recording) ≡ take line_length (drop at recording)
-    the-line part e = ap (λ (k : ℕ). take k (drop at recording)) (e ∙ by-rest) ∙ take_min line_length (drop at recording)
-
     the_rest : drop (at + size) recording ≡ drop line_length (drop at recording)
     the_rest = sym (drop-drop size at recording) ∙ (ap (λ (k : ℕ). drop k (drop at recording)) by-rest ∙ drop_min line_length (drop at recording))
 
@@ -160,14 +162,14 @@ module _ {recording record₀ : List ℕ} {receiver : Receiver} {lent : List ℕ
     abbrev now-entered : Entered
     now-entered = entry current (drop at recording) lent
 
-    module _ (part : ℕ) (parted : part ≡ size) (s : Stepped) (left : List ℕ)
-        (m : Meets (line_by (framed (take part (drop at recording))) current (take part (drop at recording)) lent) s left)
+    module _ (line : List ℕ) (cut : line ≡ take line_length (drop at recording)) (s : Stepped) (left : List ℕ)
+        (m : Meets (line_by (framed line) current line lent) s left)
         (after : Mended) (sums : after ≡ with_answer so (answer_paper s.answer)) where
       entered_here : Meets now-entered s left
       unfolding line_entered
       entered_here =
           meets s left
-          (ap (λ (x : List ℕ). line_by (framed x) current x lent) (the-line part parted)
+          (ap (λ (x : List ℕ). line_by (framed x) current x lent) cut
           ∙ asked-on current lent (line_by (framed (take line_length (drop at recording))) current (take line_length (drop at recording)) lent) t.right t.room)
           m
 
@@ -187,7 +189,7 @@ module _ {recording record₀ : List ℕ} {receiver : Receiver} {lent : List ℕ
           ∙ (ap (λ (n : ℕ). playing n current (drop at recording) lent used so) one_more ∙ t.plays))
 
       pub turning-stops : goes_on (answer_paper s.answer) ≡ false
-          → PlaysAs (played receiver recording record₀) (record { receiver = s.receiver; used = used + 1; mended = after; answer = Stopped s.answer }) left
+          → PlaysAs (played receiver recording record₀) (record { receiver = s.receiver; used = used + 1; mended = after; answer = Some s.answer }) left
       unfolding stopped_at played_paper
       turning-stops g =
           plays_as _ left (turn_is false g)

@@ -73,9 +73,9 @@ module _ (receiver : Receiver) (is : T (lawful receiver)) where
       }
 
   -- after closing, whether a page was open or not, digits, time, control bits and doubt are 0, and the cells stay
-  pub closed-rests : closed receiver ≡ shut receiver
+  pub closed_rests : closed receiver ≡ shut receiver
   unfolding closed
-  closed-rests =
+  closed_rests =
       chosen (λ (r : Receiver). r ≡ shut receiver) receiver.«open» (shut receiver) receiver (λ o. refl)
       (λ o. none-open-rests (failed receiver.«open» o))
 

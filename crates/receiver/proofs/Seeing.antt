@@ -8,10 +8,10 @@ use native.Mathlib.Omega.{arith}
 use borrow.Author.Tests.{eq-eqb, eqb-false, eqb-true, ne_eqb}
 use lib.Dec.{eqb}
 use lib.ListN.{length}
+use Rattle.std.specs.Prelude.{Ok, Err}
 use Rattle.coding.specs.Hamming.{message}
 use Rattle.packet.specs.Addresses.{address_of, magazine_of, row_of, row_weight1, shown}
-use Rattle.packet.specs.Lines.{packet_byte, packet_length}
-use Rattle.packet.specs.declared.Address.TheVariants.{WrongLength}
+use Rattle.packet.specs.Lines.{packet_byte, packet_length, wrong_length}
 use Rattle.receiver.specs.Kinds.{seen, seen_whole}
 use Rattle.receiver.specs.Private.{seen_with, seen_without}
 use Rattle.receiver.specs.declared.kinds.Seen.TheVariants.{Another}
@@ -44,23 +44,23 @@ module _ (ours : ℕ) (packet : List ℕ) (whole : length packet ≡ packet_leng
   abbrev two : Option ℕ
   two = message (packet_byte packet 2)
 
-  shown-is : {one : Option ℕ} → message (packet_byte packet 1) ≡ one → seen ours (address_of packet) ≡ seen ours (shown one two)
+  shown-is : {one : Option ℕ} → message (packet_byte packet 1) ≡ one → seen ours (address_of packet) ≡ seen ours (Ok (shown one two))
   unfolding address_of
   shown-is e =
-      ap (λ (b : Bool). seen ours (cond b (shown (message (packet_byte packet 1)) two) WrongLength)) (eq-eqb (length packet) packet_length whole)
-      ∙ ap (λ (one : Option ℕ). seen ours (shown one two)) e
+      ap (λ (b : Bool). seen ours (cond b (Ok (shown (message (packet_byte packet 1)) two)) (Err wrong_length))) (eq-eqb (length packet) packet_length whole)
+      ∙ ap (λ (one : Option ℕ). seen ours (Ok (shown one two))) e
 
-  elsewhere : (first : ℕ) (second : Option ℕ) → (magazine_of first ≡ ours → ⊥) → Another ≡ seen ours (shown (some first) second)
+  elsewhere : (first : ℕ) (second : Option ℕ) → (magazine_of first ≡ ours → ⊥) → Another ≡ seen ours (Ok (shown (some first) second))
   unfolding shown seen seen_whole
   elsewhere first none d = rw (ne_eqb (magazine_of first) ours d)
   elsewhere first (some second) d = rw (ne_eqb (magazine_of first) ours d)
 
-  with_second : (first : ℕ) (second : Option ℕ) → magazine_of first ≡ ours → seen_with (first / 8) second ≡ seen ours (shown (some first) second)
+  with_second : (first : ℕ) (second : Option ℕ) → magazine_of first ≡ ours → seen_with (first / 8) second ≡ seen ours (Ok (shown (some first) second))
   unfolding shown seen seen_whole seen_with row_of row_weight1
   with_second first none e = rw (eq-eqb (magazine_of first) ours e)
   with_second first (some second) e = rw (eq-eqb (magazine_of first) ours e)
 
-  without-first : (second : Option ℕ) → seen_without second ≡ seen ours (shown none second)
+  without-first : (second : Option ℕ) → seen_without second ≡ seen ours (Ok (shown none second))
   unfolding shown seen seen_without
   without-first none = refl
   without-first (some second) = refl

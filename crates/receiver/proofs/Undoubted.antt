@@ -13,8 +13,7 @@ use Rattle.laws.proofs.Keeps.{chosen}
 use Rattle.coding.specs.Characters.{character}
 use Rattle.packet.specs.Lines.{packet_length}
 use Rattle.grid.specs.Grid.{columns, rows}
-use Rattle.packet.specs.Texts.{text_of}
-use Rattle.packet.specs.declared.Text.{Text}
+use Rattle.packet.specs.Texts.{Text, text_of}
 use Rattle.packet.proofs.Bytes.{length_bytes}
 use Rattle.page.specs.declared.Cells.{Cells}
 use Rattle.page.specs.Lawful.{fresh}

@@ -1,6 +1,6 @@
 -- Document 01, "The receiver": what each effect of the table does to the receiver and to the lent record, and what the line's answer then says: close,
 -- then open, then store.
-use Rattle.std.specs.Prelude.{Bool, true, false, cond, not, ◌||◌, List, ◌++◌, ℕ, eqb, drop}
+use Rattle.std.specs.Prelude.{Bool, true, false, cond, not, ◌||◌, List, ◌++◌, ℕ, eqb, drop, Option, Some, None}
 use Rattle.packet.specs.Headers.{control_bit, zero_header}
 use Rattle.packet.specs.Texts.{text_of}
 use Rattle.packet.specs.declared.Header.{Header}
@@ -48,10 +48,10 @@ unfolding shut
 closed receiver = cond receiver.«open» (shut receiver) receiver
 
 -- "clean" or "doubt"; else "none"
-unfoldable pub word_of : Bool → Bool → Closing
-word_of is_open doubt = cond is_open (cond doubt closing.Doubt closing.Clean) closing.None
+unfoldable pub word_of : Bool → Bool → Option Closing
+word_of is_open doubt = cond is_open (cond doubt (Some closing.Doubt) (Some closing.Clean)) None
 
-unfoldable pub closing_word : Receiver → Closing
+unfoldable pub closing_word : Receiver → Option Closing
 unfolding word_of
 closing_word receiver = word_of receiver.«open» receiver.doubt
 
@@ -96,12 +96,12 @@ pub record Outcome : Type 0 where
   pub receiver : Receiver
   pub kind : ℕ
   pub count : ℕ
-  pub closing : Closing
+  pub closing : Option Closing
   pub lent : List ℕ
 
 -- nothing is counted, closed or written
 unfoldable pub unclosed : Receiver → ℕ → List ℕ → Outcome
-unclosed receiver kind lent = record { receiver = receiver; kind = kind; count = 0; closing = closing.None; lent = lent }
+unclosed receiver kind lent = record { receiver = receiver; kind = kind; count = 0; closing = None; lent = lent }
 
 -- kind 1: stored
 unfoldable pub text_taken : Receiver → ℕ → List ℕ → List ℕ → Outcome
@@ -111,7 +111,7 @@ text_taken receiver row bytes lent =
       receiver = row_stored receiver row bytes;
       kind = 1;
       count = how_many (row_found row bytes);
-      closing = closing.None;
+      closing = None;
       lent = lent;
     }
 

@@ -1,12 +1,12 @@
 -- Document 01, "Numbers of refusal": the entries, a line in the order 18, 12, 10, 11, and a packet in the order 18, 12, 10. Refused, the receiver
 -- handed in comes back and the lent record is untouched. And the constructor, 13.
-use Rattle.std.specs.Prelude.{Bool, false, cond, not, ◌&&◌, List, [], ◌∷◌, ◌≡◌, ℕ, eqb, ltb, length}
+use Rattle.std.specs.Prelude.{Bool, false, cond, not, ◌&&◌, List, [], ◌∷◌, ◌≡◌, ℕ, eqb, ltb, length, Option, Some, None, Result, Ok, Err, ⊤}
 use Rattle.laws.specs.Paper.{Paper, accepted, refused_by}
 use Rattle.laws.specs.Every.{every}
 use Rattle.packet.specs.Headers.{header_values, zero_header}
 use Rattle.packet.specs.Lines.{framed, packet_of, packet_length}
-use Rattle.packet.specs.declared.Framed.{Framed}
-use Rattle.packet.specs.declared.Framed.TheVariants as framed
+use Rattle.packet.specs.declared.LineError.{LineError}
+use Rattle.packet.specs.declared.LineError.TheVariants as unframed
 use Rattle.packet.specs.declared.Header.{Header}
 use Rattle.page.specs.Lawful.{header_fits, cells_fit, cells_lawful}
 use Rattle.page.specs.Records.{record_length, zero_cells}
@@ -14,40 +14,45 @@ use Rattle.receiver.specs.Cells.{blank}
 use Rattle.receiver.specs.Effects.{Outcome, taken}
 use Rattle.receiver.specs.Mended.{packet_mended}
 use Rattle.receiver.specs.Selections.{in_range, matches}
-use Rattle.receiver.specs.declared.Answer.{Answer}
-use Rattle.receiver.specs.declared.Answer.TheVariants as answer
 use Rattle.receiver.specs.declared.Closing.{Closing}
 use Rattle.receiver.specs.declared.Closing.TheVariants as closing
+use Rattle.receiver.specs.declared.OutOfRange.{OutOfRange}
 use Rattle.receiver.specs.declared.Receiver.{Receiver}
+use Rattle.receiver.specs.declared.Refusal.{Refusal}
+use Rattle.receiver.specs.declared.Refusal.TheVariants as refused
 use Rattle.receiver.specs.declared.Selection.{Selection}
 use Rattle.receiver.specs.declared.Stepped.{Stepped}
+use Rattle.receiver.specs.declared.Taken.{Taken}
 use Rattle.receiver.specs.declared.When.TheVariants.{Any}
 
 -- ---- the numbers and values of the answers
 
 -- 0 none, 1 clean, 2 doubt
-unfoldable pub closing_number : Closing → ℕ
-closing_number closing.None = 0
-closing_number closing.Clean = 1
-closing_number closing.Doubt = 2
+unfoldable pub closing_number : Option Closing → ℕ
+closing_number None = 0
+closing_number (Some closing.Clean) = 1
+closing_number (Some closing.Doubt) = 2
 
 -- the kind, the count of bytes written and the closing word; and, by document 02, request 3, how many of the Hamming bytes examined were mended
-unfoldable pub line_values : ℕ → ℕ → Closing → ℕ → List ℕ
+unfoldable pub line_values : ℕ → ℕ → Option Closing → ℕ → List ℕ
 unfolding closing_number
 line_values kind count word mended = kind ∷ count ∷ closing_number word ∷ mended ∷ []
 
 -- a refused line answers kind 0, count 0 and closing none, and none mended
 unfoldable pub refused_line : ℕ → Paper
 unfolding refused_by line_values
-refused_line number = refused_by number (line_values 0 0 closing.None 0)
+refused_line number = refused_by number (line_values 0 0 None 0)
 
-unfoldable pub answer_paper : Answer → Paper
-unfolding accepted line_values refused_line
-answer_paper (answer.Taken kind count word mended) = accepted (line_values kind count word mended)
-answer_paper answer.Unlawful = refused_line 18
-answer_paper answer.ShortRecord = refused_line 12
-answer_paper answer.WrongLength = refused_line 10
-answer_paper answer.WrongFraming = refused_line 11
+unfoldable pub refusal_number : Refusal → ℕ
+refusal_number refused.Unlawful = 18
+refusal_number refused.ShortRecord = 12
+refusal_number refused.WrongLength = 10
+refusal_number refused.WrongFraming = 11
+
+unfoldable pub answer_paper : Result Taken Refusal → Paper
+unfolding accepted line_values refused_line refusal_number
+answer_paper (Ok line) = accepted (line_values line.kind line.count line.closing line.mended)
+answer_paper (Err reason) = refused_line (refusal_number reason)
 
 -- ---- 18
 
@@ -104,11 +109,11 @@ packet_taken receiver packet lent =
     cond (eqb (length packet) packet_length) (packet_gives receiver packet lent) (refusal 10 receiver lent)
 
 -- 10 and 11, by what the line is
-unfoldable pub line_by : Framed → Receiver → List ℕ → List ℕ → Entered
+unfoldable pub line_by : Result ⊤ LineError → Receiver → List ℕ → List ℕ → Entered
 unfolding packet_taken packet_of refusal
-line_by framed.Packet receiver line lent = packet_taken receiver (packet_of line) lent
-line_by framed.WrongLength receiver line lent = refusal 10 receiver lent
-line_by framed.WrongFraming receiver line lent = refusal 11 receiver lent
+line_by (Ok fine) receiver line lent = packet_taken receiver (packet_of line) lent
+line_by (Err unframed.WrongLength) receiver line lent = refusal 10 receiver lent
+line_by (Err unframed.WrongFraming) receiver line lent = refusal 11 receiver lent
 
 -- 18, then 12, and then what follows
 unfoldable pub asked : Receiver → List ℕ → Entered → Entered
@@ -147,7 +152,7 @@ unfolding zero_selection zero_header zero_cells
 zero_receiver =
     record { selection = zero_selection; «open» = false; doubt = false; header = zero_header; cells = zero_cells }
 
--- 13: selection out of range
+-- 13: selection out of range, with zeros beside it
 unfoldable pub made : Selection → Receiver
 unfolding in_range new_receiver zero_receiver
 made selection = cond (in_range selection) (new_receiver selection) zero_receiver
@@ -155,3 +160,9 @@ made selection = cond (in_range selection) (new_receiver selection) zero_receive
 unfoldable pub made_answer : Selection → Paper
 unfolding in_range accepted refused_by
 made_answer selection = cond (in_range selection) (accepted []) (refused_by 13 [])
+
+-- the receiver that the code gives, and zeros where it refuses
+unfoldable pub made_in : Result Receiver OutOfRange → Receiver
+unfolding zero_receiver
+made_in (Ok receiver) = receiver
+made_in (Err reason) = zero_receiver

@@ -1,29 +1,27 @@
 -- For the contracts of private functions: no promise rests on these words.
-use Rattle.std.specs.Prelude.{Bool, true, false, cond, ◌&&◌, List, ◌≡◌, ℕ, ◌+◌, ◌*◌, ◌≤◌, ◌<◌, eqb, leb, ltb, get_or, length}
+use Rattle.std.specs.Prelude.{Bool, true, false, cond, ◌&&◌, List, ◌≡◌, ℕ, ◌+◌, ◌*◌, ◌≤◌, ◌<◌, eqb, leb, ltb, get_or, length, Result, Ok, Err, ⊤}
+use Rattle.std.specs.Prelude as std
 use Rattle.std.proofs.Math.Option.{Option, none, some}
 use Rattle.laws.specs.Digits.{most_counted}
-use Rattle.grid.specs.Grid.{cell_count, last_row}
+use Rattle.grid.specs.Grid.{last_row}
 use Rattle.packet.specs.Lines.{framed, packet_length}
-use Rattle.packet.specs.declared.Framed.{Framed}
-use Rattle.packet.specs.declared.Framed.TheVariants as framed
+use Rattle.packet.specs.declared.LineError.{LineError}
+use Rattle.packet.specs.declared.LineError.TheVariants as unframed
 use Rattle.page.specs.Lawful.{cells_fit, cells_lawful, highest_mark}
 use Rattle.page.specs.Records.{record_length}
 use Rattle.page.specs.declared.Cells.{Cells}
 use Rattle.receiver.specs.Effects.{Outcome}
-use Rattle.receiver.specs.Entries.{lawful}
+use Rattle.receiver.specs.Entries.{Entered, lawful, packet_gives, refusal, refusal_number}
 use Rattle.receiver.specs.Kinds.{first_harmless, seen_ours}
-use Rattle.receiver.specs.Recordings.{Playing, played_paper}
-use Rattle.receiver.specs.declared.Answer.{Answer}
-use Rattle.receiver.specs.declared.Answer.TheVariants as answer
 use Rattle.receiver.specs.declared.Closing.{Closing}
-use Rattle.receiver.specs.declared.Closing.TheVariants as closing
 use Rattle.receiver.specs.declared.Mended.{Mended}
-use Rattle.receiver.specs.declared.Played.{Played}
 use Rattle.receiver.specs.declared.Receiver.{Receiver}
-use Rattle.receiver.specs.declared.asking.Asking.{Asking}
-use Rattle.receiver.specs.declared.asking.Asking.TheVariants as asked
+use Rattle.receiver.specs.declared.Recorded.{Recorded}
+use Rattle.receiver.specs.declared.Refusal.{Refusal}
+use Rattle.receiver.specs.declared.Refusal.TheVariants as refused
+use Rattle.receiver.specs.declared.Stepped.{Stepped}
+use Rattle.receiver.specs.declared.Taken.{Taken}
 use Rattle.receiver.specs.declared.effects.Done.{Done}
-use Rattle.receiver.specs.declared.effects.Standing.{Standing}
 use Rattle.receiver.specs.declared.kinds.Effect.{Effect}
 use Rattle.receiver.specs.declared.kinds.Effect.TheVariants.{Nothing, Store, Open, Close, Doubt}
 use Rattle.receiver.specs.declared.kinds.Seen.{Seen}
@@ -40,9 +38,9 @@ unfolding cells_fit cells_lawful
 both_lawful cells = cells_fit cells && cells_lawful cells
 
 -- 18, then 12, of a receiver and the length of what is lent
-unfoldable pub asked_of : Receiver → ℕ → Asking
+unfoldable pub asked_of : Receiver → ℕ → Result ⊤ Refusal
 unfolding lawful
-asked_of receiver room = cond (lawful receiver) (cond (ltb room record_length) (asked.Refused answer.ShortRecord) asked.Fine) (asked.Refused answer.Unlawful)
+asked_of receiver room = cond (lawful receiver) (cond (ltb room record_length) (Err refused.ShortRecord) (Ok tt)) (Err refused.Unlawful)
 
 -- marks of lawful cells
 abbrev pub LowMarks : List ℕ → Type 0
@@ -64,55 +62,38 @@ seen_without (some second) = cond (leb first_harmless second) Another (Unsure (e
 -- ---- 10 and 11
 
 -- of a packet
-unfoldable pub packet_asked : List ℕ → Asking
-packet_asked packet = cond (eqb (length packet) packet_length) asked.Fine (asked.Refused answer.WrongLength)
+unfoldable pub packet_asked : List ℕ → Result ⊤ Refusal
+packet_asked packet = cond (eqb (length packet) packet_length) (Ok tt) (Err refused.WrongLength)
 
 -- of a line, by what it is
-unfoldable pub asked_by : Framed → Asking
-asked_by framed.Packet = asked.Fine
-asked_by framed.WrongLength = asked.Refused answer.WrongLength
-asked_by framed.WrongFraming = asked.Refused answer.WrongFraming
+unfoldable pub refusal_of : LineError → Refusal
+refusal_of unframed.WrongLength = refused.WrongLength
+refusal_of unframed.WrongFraming = refused.WrongFraming
 
-unfoldable pub line_asked : List ℕ → Asking
+unfoldable pub asked_by : Result ⊤ LineError → Result ⊤ Refusal
+unfolding refusal_of
+asked_by (Ok fine) = Ok tt
+asked_by (Err error) = Err (refusal_of error)
+
+unfoldable pub line_asked : List ℕ → Result ⊤ Refusal
 unfolding asked_by framed
 line_asked line = asked_by (framed line)
 
--- a page was closed
-unfoldable pub is_closing : Closing → Bool
-is_closing closing.None = false
-is_closing closing.Clean = true
-is_closing closing.Doubt = true
+-- what an entry gives once 18 and 12 were asked, by what 10 and 11 have against the line
+unfoldable pub looked_at : Result ⊤ Refusal → Receiver → List ℕ → List ℕ → Entered
+unfolding refusal refusal_number
+looked_at (Ok fine) receiver packet lent = packet_gives receiver packet lent
+looked_at (Err reason) receiver packet lent = refusal (refusal_number reason) receiver lent
 
--- ---- a receiver whose cells lie elsewhere
+-- ---- a line that is taken
 
-abbrev pub standing_of : Receiver → Standing
-standing_of receiver =
-    record {
-      selection = receiver.selection;
-      is_open = receiver.«open»;
-      doubt = receiver.doubt;
-      header = receiver.header;
-    }
-
-abbrev pub joined : Standing → List ℕ → List ℕ → Receiver
-joined standing characters marks =
-    record {
-      selection = standing.selection;
-      «open» = standing.is_open;
-      doubt = standing.doubt;
-      header = standing.header;
-      cells = record { characters = characters; marks = marks };
-    }
-
--- what a line finds that is taken: a lawful receiver with all its cells, and a lent record that is long enough
-pub record Ready (standing : Standing) (characters marks lent : List ℕ) : Type 0 where
-  pub right : lawful (joined standing characters marks) ≡ true
-  pub all_characters : length characters ≡ cell_count
-  pub all_marks : length marks ≡ cell_count
+-- what it finds: a lawful receiver, and a lent record that is long enough
+pub record Ready (receiver : Receiver) (lent : List ℕ) : Type 0 where
+  pub right : lawful receiver ≡ true
   pub room : record_length ≤ length lent
 
-abbrev pub done_of : Standing → ℕ → ℕ → Closing → Done
-done_of standing kind count word = record { standing = standing; kind = kind; count = count; closing = word }
+abbrev pub done_of : ℕ → ℕ → std.Option Closing → Done
+done_of kind count word = record { kind = kind; count = count; closing = word }
 
 -- a row that is to be stored has its cells
 abbrev pub Storable : Effect → Type 0
@@ -122,17 +103,17 @@ Storable (Open header) = Unit {0}
 Storable (Close kind) = Unit {0}
 Storable (Doubt could_be_header) = Unit {0}
 
--- what the code of an effect gives, where the cells and the lent record are then these
-pub record Does (outcome : Outcome) (done : Done) (characters marks lent : List ℕ) : Type 0 where
-  pub kept : joined done.standing characters marks ≡ outcome.receiver
+-- what the code of an effect gives, where the receiver and the lent record are then these
+pub record Does (outcome : Outcome) (done : Done) (receiver : Receiver) (lent : List ℕ) : Type 0 where
+  pub kept : receiver ≡ outcome.receiver
   pub kind : done.kind ≡ outcome.kind
   pub count : done.count ≡ outcome.count
   pub word : done.closing ≡ outcome.closing
   pub left : lent ≡ outcome.lent
 
 -- a line's answer
-abbrev pub answer_of : Done → ℕ → Answer
-answer_of done mended = answer.Taken done.kind done.count done.closing mended
+abbrev pub taken_of : Done → ℕ → Taken
+taken_of done mended = record { kind = done.kind; count = done.count; closing = done.closing; mended = mended }
 
 -- a line's mended bytes can be added
 pub record Holds (so : Mended) (mended : ℕ) : Type 0 where
@@ -140,13 +121,10 @@ pub record Holds (so : Mended) (mended : ℕ) : Type 0 where
   pub lines : so.lines + 1 ≤ most_counted
   pub own : so.own + mended ≤ most_counted
 
-abbrev pub ended_as : Standing → ℕ → Mended → Played → Ended
-ended_as standing used mended answer = record { standing = standing; used = used; mended = mended; answer = answer }
+-- ---- what an entry gives, of the receiver that it altered and what its code says
 
--- what the code of playing gives, where the cells and the lent record are then these
-pub record EndsAs (promised : Playing) (ended : Ended) (characters marks lent : List ℕ) : Type 0 where
-  pub answered : played_paper ended.answer ≡ promised.stopped
-  pub counted : ended.used ≡ promised.used
-  pub mended : ended.mended ≡ promised.mended
-  pub kept : joined ended.standing characters marks ≡ promised.receiver
-  pub left : lent ≡ promised.lent
+abbrev pub stepped_of : Receiver → Result Taken Refusal → Stepped
+stepped_of receiver answer = record { receiver = receiver; answer = answer }
+
+abbrev pub recorded_of : Receiver → Ended → Recorded
+recorded_of receiver ended = record { receiver = receiver; used = ended.used; mended = ended.mended; answer = ended.answer }

@@ -1,16 +1,17 @@
 -- A recording: data-lines end to end. It is played to the first line that is refused or closes a page, or to its end; a part at the end that is no whole
 -- line is a line of the wrong length. Each line is entered as `line_entered` has it.
-use Rattle.std.specs.Prelude.{Bool, false, cond, ◌&&◌, List, ◌≡◌, ℕ, zero, suc, ◌+◌, eqb, length, get_or, take, drop}
+use Rattle.std.specs.Prelude.{Bool, false, cond, ◌&&◌, List, ◌≡◌, ℕ, zero, suc, ◌+◌, eqb, length, get_or, take, drop, Result}
+use Rattle.std.specs.Prelude as std
 use Rattle.std.proofs.Math.Option.{Option, none, some}
 use Rattle.laws.specs.Paper.{Paper}
 use Rattle.packet.specs.Lines.{line_length}
 use Rattle.receiver.specs.Entries.{Entered, answer_paper, line_entered}
 use Rattle.receiver.specs.Mended.{brought_by, none_mended, summed}
 use Rattle.receiver.specs.declared.Mended.{Mended}
-use Rattle.receiver.specs.declared.Played.{Played}
-use Rattle.receiver.specs.declared.Played.TheVariants.{End, Stopped}
 use Rattle.receiver.specs.declared.Receiver.{Receiver}
 use Rattle.receiver.specs.declared.Recorded.{Recorded}
+use Rattle.receiver.specs.declared.Refusal.{Refusal}
+use Rattle.receiver.specs.declared.Taken.{Taken}
 
 -- a number that is there and is 0
 unfoldable pub is_accepted : Option ℕ → Bool
@@ -55,10 +56,10 @@ unfolding playing
 played receiver recording lent = playing (length recording) receiver recording lent 0 none_mended
 
 -- the answer that playing stopped at
-unfoldable pub played_paper : Played → Option Paper
+unfoldable pub played_paper : std.Option (Result Taken Refusal) → Option Paper
 unfolding answer_paper
-played_paper End = none
-played_paper (Stopped answer) = some (answer_paper answer)
+played_paper std.None = none
+played_paper (std.Some answer) = some (answer_paper answer)
 
 -- what the code gives, where it was lent a record that then holds `lent`
 pub record PlaysAs (promised : Playing) (recorded : Recorded) (lent : List ℕ) : Type 0 where

@@ -1,10 +1,10 @@
 -- Document 01, "Addresses and headers": a selection is magazine 1 to 8, tens and units 0 to 9, and perhaps a time code. A header matches by magazine
 -- and page, and by time code where one was selected. Refusal 13.
-use Rattle.std.specs.Prelude.{Bool, true, ◌&&◌, [], eqb, leb}
+use Rattle.std.specs.Prelude.{Bool, true, ◌&&◌, [], eqb, leb, Result, Ok, Err}
 use Rattle.laws.specs.Paper.{Paper, accepted, refused_by}
 use Rattle.packet.specs.declared.Header.{Header}
-use Rattle.receiver.specs.declared.Selected.{Selected}
-use Rattle.receiver.specs.declared.Selected.TheVariants as selected
+use Rattle.receiver.specs.declared.OutOfRange.{OutOfRange}
+use Rattle.receiver.specs.declared.Receiver.{Receiver}
 use Rattle.receiver.specs.declared.Selection.{Selection}
 use Rattle.receiver.specs.declared.When.{When}
 use Rattle.receiver.specs.declared.When.TheVariants.{Any, Time}
@@ -36,7 +36,7 @@ matches selection header =
     eqb header.tens selection.tens && eqb header.units selection.units && time_matches selection.when header
 
 -- the paper's number: 13, selection out of range
-unfoldable pub selected_paper : Selected → Paper
+unfoldable pub selected_paper : Result Receiver OutOfRange → Paper
 unfolding accepted refused_by
-selected_paper selected.Ready = accepted []
-selected_paper selected.OutOfRange = refused_by 13 []
+selected_paper (Ok receiver) = accepted []
+selected_paper (Err reason) = refused_by 13 []

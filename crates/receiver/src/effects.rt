@@ -1,145 +1,92 @@
-// What a line does: the page is closed, opened, stored to or put in doubt, with the cells where they lie.
-ghost use Rattle.std.specs.Prelude.{[], ◌≡◌, ◌≤◌, ◌-◌, ltb, length};
-ghost use Rattle.grid.specs.Grid.{cell_count, columns, last_row};
+// What a line does to a receiver: its page is closed, opened, stored to or put in doubt, where it lies.
+ghost use Rattle.std.specs.Prelude.{[], ◌≡◌, ◌≤◌, ◌-◌, ltb, None};
+ghost use Rattle.grid.specs.Grid.{columns, last_row};
 ghost use Rattle.packet.specs.Addresses.{address_of};
 ghost use Rattle.packet.specs.Texts.{text_of};
 ghost use Rattle.receiver.specs.Cells.{first_column};
 ghost use Rattle.receiver.specs.Effects.{closing_word, effected, header_taken, just_closed, lent_after, shut, taken, text_taken, unsure_taken, word_of};
 ghost use Rattle.receiver.specs.Kinds.{seen};
-ghost use Rattle.receiver.specs.Private.{Does, Ready, Storable, answer_of, done_of, joined, standing_of};
-ghost use Rattle.receiver.specs.declared.Closing.TheVariants.{None};
+ghost use Rattle.receiver.specs.Private.{Does, Ready, Storable, done_of, taken_of};
 
 use crate::cells::{first_column, open_cells, store_row};
 use crate::kinds::{Effect, Seen, effect_of};
-use crate::{Answer, Closing, Receiver, Selection};
-use grid::{CELLS, COLUMNS};
+use crate::{Closing, Receiver, Taken};
+use grid::COLUMNS;
 use packet::{Header, ZERO_HEADER};
-use page::Cells;
 
-// A receiver without its cells, which lie in two arrays of their own while lines are taken.
+// What a line did, but for the receiver and the lent record.
 #[derive(Clone, Copy)]
-pub(crate) struct Standing {
-    pub(crate) selection: Selection,
-    pub(crate) is_open: bool,
-    pub(crate) doubt: bool,
-    pub(crate) header: Header,
-}
-
-// What a line did, but for the cells and the lent record.
-#[derive(Drop)]
 pub(crate) struct Done {
-    pub(crate) standing: Standing,
     pub(crate) kind: u8,
     pub(crate) count: u8,
-    pub(crate) closing: Closing,
+    pub(crate) closing: Option<Closing>,
 }
 
-pub(crate) fn standing_of(receiver: Receiver) -> Standing
-    ensures { (result ≡ standing_of receiver) × (length receiver.cells.characters ≡ cell_count) × (length receiver.cells.marks ≡ cell_count) }
-{
-    let selection = receiver.selection;
-    let header = receiver.header;
-    Standing {
-        selection,
-        is_open: receiver.open,
-        doubt: receiver.doubt,
-        header,
-    }
-}
-
-pub(crate) fn join(standing: Standing, characters: [u8; CELLS], marks: [u8; CELLS]) -> Receiver
-    ensures { result ≡ joined standing characters marks }
-{
-    let selection = standing.selection;
-    let header = standing.header;
-    let cells = Cells { characters, marks };
-    Receiver {
-        selection,
-        open: standing.is_open,
-        doubt: standing.doubt,
-        header,
-        cells,
-    }
-}
-
-fn closing_word(is_open: bool, doubt: bool) -> Closing
+#[tactic(auto, unfolding(crate::specs::Effects::word_of))]
+fn closing_word(is_open: bool, doubt: bool) -> Option<Closing>
     ensures { result ≡ word_of is_open doubt }
 {
-    if is_open {
-        if doubt {
-            return Closing::Doubt;
-        }
-        return Closing::Clean;
+    if !is_open {
+        return None;
     }
-    Closing::None
+    if doubt {
+        Some(Closing::Doubt)
+    } else {
+        Some(Closing::Clean)
+    }
 }
 
 // Writes the record of the page, where one is open, and says how it closed.
-fn close(
-    standing: Standing,
-    characters: &[u8; CELLS],
-    marks: &[u8; CELLS],
-    record: &mut [u8],
-) -> Closing
-    requires { Ready standing characters.now marks.now «record».old }
-    ensures { (result ≡ closing_word (joined standing characters.now marks.now)) × («record».new ≡ lent_after (joined standing characters.now marks.now) «record».old) }
+fn close(receiver: &Receiver, record: &mut [u8]) -> Option<Closing>
+    requires { Ready receiver.now «record».old }
+    ensures { (result ≡ closing_word receiver.now) × («record».new ≡ lent_after receiver.now «record».old) }
 {
-    let closing = closing_word(standing.is_open, standing.doubt);
-    if !standing.is_open {
+    let closing = closing_word(receiver.open, receiver.doubt);
+    if !receiver.open {
         return closing;
     }
-    let header = standing.header;
-    page::write_parts(
-        standing.selection.magazine,
-        header,
-        !standing.doubt,
-        characters,
-        marks,
+    // Nothing is refused here.
+    let _ = page::write_parts(
+        receiver.selection.magazine,
+        receiver.header,
+        !receiver.doubt,
+        &receiver.cells.characters,
+        &receiver.cells.marks,
         record,
     );
     closing
 }
 
 // With no page open there is no doubt, and the header is zero.
-fn shut_standing(standing: Standing) -> Standing
-    ensures { result ≡ standing_of (shut (joined standing [] [])) }
+#[tactic(auto, unfolding(crate::specs::Effects::shut))]
+fn shut(receiver: &mut Receiver)
+    ensures { receiver.new ≡ shut receiver.old }
 {
-    let selection = standing.selection;
-    Standing {
-        selection,
-        is_open: false,
-        doubt: false,
-        header: ZERO_HEADER,
-    }
+    receiver.open = false;
+    receiver.doubt = false;
+    receiver.header = ZERO_HEADER;
 }
 
 // A line that closes nothing.
-fn unclosed_line(standing: Standing, kind: u8) -> Done
-    ensures { result ≡ done_of standing kind 0 None }
+fn unclosed_line(kind: u8) -> Done
+    ensures { result ≡ done_of kind 0 None }
 {
     Done {
-        standing,
         kind,
         count: 0,
-        closing: Closing::None,
+        closing: None,
     }
 }
 
 // A line that closes the page and does no more.
-fn just_close(
-    standing: Standing,
-    kind: u8,
-    characters: &[u8; CELLS],
-    marks: &[u8; CELLS],
-    record: &mut [u8],
-) -> Done
-    requires { Ready standing characters.now marks.now «record».old }
-    ensures { Does (just_closed (joined standing characters.now marks.now) kind «record».old) result characters.now marks.now «record».new }
+#[tactic(auto, using(crate::proofs::Resting::closed_rests, crate::proofs::Doing::ready_lawful), unfolding(crate::specs::Effects::just_closed))]
+fn just_close(receiver: &mut Receiver, kind: u8, record: &mut [u8]) -> Done
+    requires { Ready receiver.old «record».old }
+    ensures { Does (just_closed receiver.old kind «record».old) result receiver.new «record».new }
 {
-    let closing = close(standing, characters, marks, record);
-    let shut = shut_standing(standing);
+    let closing = close(receiver, record);
+    shut(receiver);
     Done {
-        standing: shut,
         kind,
         count: 0,
         closing,
@@ -147,6 +94,7 @@ fn just_close(
 }
 
 // Whether fewer characters of a row were written than it has.
+#[tactic(auto, using(crate::proofs::Rows::first_small))]
 fn is_missing(row: u8, count: u8) -> bool
     ensures { result ≡ ltb count (columns - first_column row) }
 {
@@ -154,55 +102,33 @@ fn is_missing(row: u8, count: u8) -> bool
 }
 
 // Our row below row 0 that carries characters, with a page open: kind 1.
-fn text_line(
-    standing: Standing,
-    row: u8,
-    packet: &[u8],
-    characters: &mut [u8; CELLS],
-    marks: &mut [u8; CELLS],
-) -> Done
+fn text_line(receiver: &mut Receiver, row: u8, packet: &[u8]) -> Done
     requires { row ≤ last_row }
-    ensures { Does (text_taken (joined standing characters.old marks.old) row (text_of packet.now).bytes []) result characters.new marks.new [] }
+    ensures { Does (text_taken receiver.old row (text_of packet.now).bytes []) result receiver.new [] }
 {
-    let text = packet::text_of(packet);
-    let bytes = text.bytes;
-    let count = store_row(row, bytes, characters, marks);
-    let mut after = standing;
-    after.doubt = standing.doubt | is_missing(row, count);
+    let text = packet::text_of(packet).unwrap_or([0; COLUMNS]);
+    let count = store_row(row, text, &mut receiver.cells);
+    receiver.doubt |= is_missing(row, count);
     Done {
-        standing: after,
         kind: 1,
         count,
-        closing: Closing::None,
+        closing: None,
     }
 }
 
 // Our row 0 of the selected page: close, then open, then store. Kind 2.
-fn header_line(
-    standing: Standing,
-    header: Header,
-    packet: &[u8],
-    characters: &mut [u8; CELLS],
-    marks: &mut [u8; CELLS],
-    record: &mut [u8],
-) -> Done
-    requires { Ready standing characters.old marks.old «record».old }
-    ensures { Does (header_taken (joined standing characters.old marks.old) header (text_of packet.now).bytes «record».old) result characters.new marks.new «record».new }
+fn header_line(receiver: &mut Receiver, header: Header, packet: &[u8], record: &mut [u8]) -> Done
+    requires { Ready receiver.old «record».old }
+    ensures { Does (header_taken receiver.old header (text_of packet.now).bytes «record».old) result receiver.new «record».new }
 {
-    let closing = close(standing, characters, marks, record);
-    open_cells(header, characters, marks);
-    let text = packet::text_of(packet);
-    let bytes = text.bytes;
-    let count = store_row(0, bytes, characters, marks);
-    let selection = standing.selection;
-    let opened = Standing {
-        selection,
-        is_open: true,
-        doubt: is_missing(0, count),
-        header,
-    };
+    let closing = close(receiver, record);
+    open_cells(header, &mut receiver.cells);
+    let text = packet::text_of(packet).unwrap_or([0; COLUMNS]);
+    let count = store_row(0, text, &mut receiver.cells);
+    receiver.open = true;
+    receiver.doubt = is_missing(0, count);
+    receiver.header = header;
     Done {
-        standing: opened,
         kind: 2,
         count,
         closing,
@@ -210,75 +136,53 @@ fn header_line(
 }
 
 // An address message refused, may be ours: kind 4.
-fn unsure_line(
-    standing: Standing,
-    could_be_header: bool,
-    characters: &[u8; CELLS],
-    marks: &[u8; CELLS],
-    record: &mut [u8],
-) -> Done
-    requires { Ready standing characters.now marks.now «record».old }
-    ensures { Does (unsure_taken (joined standing characters.now marks.now) could_be_header «record».old) result characters.now marks.now «record».new }
+#[tactic(auto, using(crate::proofs::Doing::ready_doubted), unfolding(crate::specs::Effects::unsure_taken, crate::specs::Effects::doubted, crate::specs::Effects::unclosed))]
+fn unsure_line(receiver: &mut Receiver, could_be_header: bool, record: &mut [u8]) -> Done
+    requires { Ready receiver.old «record».old }
+    ensures { Does (unsure_taken receiver.old could_be_header «record».old) result receiver.new «record».new }
 {
-    if !standing.is_open {
-        return unclosed_line(standing, 4);
+    if !receiver.open {
+        return unclosed_line(4);
     }
-    let mut doubtful = standing;
-    doubtful.doubt = true;
+    receiver.doubt = true;
     if could_be_header {
-        return just_close(doubtful, 4, characters, marks, record);
+        return just_close(receiver, 4, record);
     }
-    unclosed_line(doubtful, 4)
+    unclosed_line(4)
 }
 
 // One effect, for a receiver that is known to be lawful and a record that is long enough.
-fn act(
-    standing: Standing,
-    effect: Effect,
-    packet: &[u8],
-    characters: &mut [u8; CELLS],
-    marks: &mut [u8; CELLS],
-    record: &mut [u8],
-) -> Done
-    requires { Ready standing characters.old marks.old «record».old × Storable effect }
-    ensures { Does (effected (joined standing characters.old marks.old) effect (text_of packet.now).bytes «record».old) result characters.new marks.new «record».new }
+#[tactic(auto, unfolding(crate::specs::Effects::effected, crate::specs::Effects::unclosed, crate::specs::Effects::text_taken, crate::specs::Private::Storable))]
+fn act(receiver: &mut Receiver, effect: Effect, packet: &[u8], record: &mut [u8]) -> Done
+    requires { Ready receiver.old «record».old × Storable effect }
+    ensures { Does (effected receiver.old effect (text_of packet.now).bytes «record».old) result receiver.new «record».new }
 {
     match effect {
-        Effect::Nothing => unclosed_line(standing, 0),
-        Effect::Store(row) => text_line(standing, row, packet, characters, marks),
-        Effect::Open(header) => { header_line(standing, header, packet, characters, marks, record) }
-        Effect::Close(kind) => just_close(standing, kind, characters, marks, record),
-        Effect::Doubt(could_be_header) => {
-            unsure_line(standing, could_be_header, characters, marks, record)
-        }
+        Effect::Nothing => unclosed_line(0),
+        Effect::Store(row) => text_line(receiver, row, packet),
+        Effect::Open(header) => header_line(receiver, header, packet, record),
+        Effect::Close(kind) => just_close(receiver, kind, record),
+        Effect::Doubt(could_be_header) => unsure_line(receiver, could_be_header, record),
     }
 }
 
 // A packet of 42 bytes by what its address shows: what is to be done, and that.
-pub(crate) fn follow(
-    standing: Standing,
-    shows: Seen,
-    packet: &[u8],
-    characters: &mut [u8; CELLS],
-    marks: &mut [u8; CELLS],
-    record: &mut [u8],
-) -> Done
-    requires { Ready standing characters.old marks.old «record».old × (shows ≡ seen standing.selection.magazine (address_of packet.now)) }
-    ensures { Does (taken (joined standing characters.old marks.old) packet.now «record».old) result characters.new marks.new «record».new }
+#[tactic(auto, using(crate::proofs::Doing::due_storable), unfolding(crate::specs::Effects::taken, crate::specs::Kinds::effect_due))]
+pub(crate) fn follow(receiver: &mut Receiver, shows: Seen, packet: &[u8], record: &mut [u8]) -> Done
+    requires { Ready receiver.old «record».old × (shows ≡ seen receiver.old.selection.magazine (address_of packet.now)) }
+    ensures { Does (taken receiver.old packet.now «record».old) result receiver.new «record».new }
 {
-    let selection = standing.selection;
-    let effect = effect_of(selection, standing.is_open, shows, packet);
-    act(standing, effect, packet, characters, marks, record)
+    let effect = effect_of(receiver.selection, receiver.open, shows, packet);
+    act(receiver, effect, packet, record)
 }
 
-pub(crate) fn answer_of(done: Done, mended: u8) -> Answer
-    ensures { result ≡ answer_of done mended }
+pub(crate) fn taken_of(done: Done, mended: u8) -> Taken
+    ensures { result ≡ taken_of done mended }
 {
-    let closing = done.closing;
-    Answer::Taken {
+    Taken {
         kind: done.kind,
         count: done.count,
-        closing,
+        closing: done.closing,
         mended,
     }
 }

@@ -10,9 +10,8 @@ ghost use Rattle.receiver.specs.Private.{seen_with, seen_without};
 
 use crate::Selection;
 use crate::selecting::is_selected;
-use coding::Message;
 use grid::LAST_ROW;
-use packet::{Header, HeaderRead};
+use packet::{Header, HeaderError};
 
 // What the address of a packet shows of its line.
 #[derive(Clone, Copy)]
@@ -28,7 +27,7 @@ pub(crate) enum Seen {
 }
 
 // What is to be done with a line.
-#[derive(Drop)]
+#[derive(Clone, Copy)]
 pub(crate) enum Effect {
     Nothing,
     // A row is stored.
@@ -45,6 +44,7 @@ pub(crate) enum Effect {
 const FIRST_HARMLESS: u8 = LAST_ROW / 2 + 1;
 
 // A row of our magazine.
+#[tactic(auto, unfolding(crate::specs::Kinds::seen_ours))]
 fn our_row(row: u8) -> Seen
     ensures { result ≡ seen_ours row }
 {
@@ -64,8 +64,8 @@ fn seen_with(weight1: u8, byte: u8) -> Seen
     ensures { result ≡ seen_with weight1 (message (turned_byte byte)) }
 {
     match packet::message_at(byte) {
-        Message::Good(second) => our_row(weight1 + 2 * second),
-        Message::Refused => Seen::Unsure(weight1 == 0),
+        Some(second) => our_row(weight1 + 2 * second),
+        None => Seen::Unsure(weight1 == 0),
     }
 }
 
@@ -74,14 +74,14 @@ fn seen_without(byte: u8) -> Seen
     ensures { result ≡ seen_without (message (turned_byte byte)) }
 {
     match packet::message_at(byte) {
-        Message::Good(second) => {
+        Some(second) => {
             if second >= FIRST_HARMLESS {
                 Seen::Another
             } else {
                 Seen::Unsure(second == 0)
             }
         }
-        Message::Refused => Seen::Unsure(true),
+        None => Seen::Unsure(true),
     }
 }
 
@@ -91,13 +91,13 @@ pub(crate) fn seen_of(ours: u8, packet: &[u8]) -> Seen
     ensures { result ≡ seen ours (address_of packet.now) }
 {
     match packet::message_at(packet[0]) {
-        Message::Good(first) => {
+        Some(first) => {
             if first % 8 != ours % 8 {
                 return Seen::Another;
             }
             seen_with(first / 8, packet[1])
         }
-        Message::Refused => seen_without(packet[1]),
+        None => seen_without(packet[1]),
     }
 }
 
@@ -106,19 +106,20 @@ fn header_effect(selection: Selection, packet: &[u8]) -> Effect
     ensures { result ≡ header_effect selection (header_of packet.now) }
 {
     match packet::header_of(packet) {
-        HeaderRead::Good(header) => {
+        Ok(header) => {
             if is_selected(selection, header) {
                 Effect::Open(header)
             } else {
                 Effect::Close(3)
             }
         }
-        HeaderRead::Spoiled => Effect::Close(5),
-        HeaderRead::WrongLength => Effect::Nothing,
+        Err(HeaderError::Spoiled) => Effect::Close(5),
+        Err(HeaderError::WrongLength) => Effect::Nothing,
     }
 }
 
 // What is to be done with a line, by what its address shows: a row is stored only where a page is open.
+#[tactic(auto, unfolding(crate::specs::Kinds::effect_of))]
 pub(crate) fn effect_of(selection: Selection, is_open: bool, shows: Seen, packet: &[u8]) -> Effect
     ensures { result ≡ effect_of selection is_open shows (header_of packet.now) }
 {

@@ -10,18 +10,21 @@ mod mending;
 mod recording;
 mod selecting;
 
-ghost use Rattle.std.specs.Prelude.{◌≡◌};
-ghost use Rattle.receiver.specs.Entries.{Meets, line_entered, made, made_answer, packet_entered};
+ghost use Rattle.std.specs.Prelude.{◌≡◌, OnOk, length};
+ghost use Rattle.packet.specs.Lines.{packet_length};
+ghost use Rattle.receiver.specs.Entries.{Meets, asked, line_entered, made, made_answer, made_in, packet_entered, refusal_number};
+ghost use Rattle.receiver.specs.Private.{looked_at, stepped_of};
 ghost use Rattle.receiver.specs.Recordings.{PlaysAs, played};
 ghost use Rattle.receiver.specs.Selections.{selected_paper};
 
-use asking::{Asking, asked, line_asked, packet_asked};
-use effects::{answer_of, follow, join, standing_of};
+use asking::{asked, line_asked, packet_asked};
+use cells::BLANK;
+use effects::{follow, taken_of};
 use kinds::seen_of;
 use mending::mended_bytes;
 pub use mending::mended_of;
 use packet::{Header, ZERO_HEADER};
-use page::{Cells, NEVER, SPACE, ZERO_CELLS};
+use page::Cells;
 use recording::play;
 use selecting::in_range;
 
@@ -56,60 +59,52 @@ pub struct Receiver {
     pub cells: Cells,
 }
 
-#[derive(Drop)]
-pub enum Selected {
-    Ready,
-    // 13
-    OutOfRange,
-}
+// What is wrong with a selection: 13.
+#[derive(Clone, Copy, PartialEq, Eq)]
+pub struct OutOfRange;
 
-// A new receiver, or zeros beside a refusal.
-#[derive(Drop)]
-pub struct New {
-    pub answer: Selected,
-    pub receiver: Receiver,
-}
-
-// Whether a page closed with a line, and how.
-#[derive(Clone, Copy)]
+// How a page closed with a line. The paper's answer has these numbers, and 0 where none closed.
+#[derive(Clone, Copy, PartialEq, Eq)]
 pub enum Closing {
-    None,
-    Clean,
-    Doubt,
+    Clean = 1,
+    Doubt = 2,
 }
 
-#[derive(Clone, Copy)]
-pub enum Answer {
-    // The line's kind, the count of characters written, the closing word, and how many of the Hamming bytes examined were mended: the two of the address, and
-    // in our row 0 the eight control bytes too.
-    Taken {
-        kind: u8,
-        count: u8,
-        closing: Closing,
-        mended: u8,
-    },
-    // 18
-    Unlawful,
-    // 12
-    ShortRecord,
-    // 10
-    WrongLength,
-    // 11
-    WrongFraming,
+// A line that was taken: its kind, the count of characters written, how a page closed with it, and how many of the Hamming bytes examined were mended: the two of the
+// address, and in our row 0 the eight control bytes too. The kind is the number of document 01's table, 0 to 5. It is no enum: `mended_of` and
+// `watch::watch_line` take an answer of any kind, and an enum would ask more of their callers.
+#[derive(Clone, Copy, PartialEq, Eq)]
+pub struct Taken {
+    pub kind: u8,
+    pub count: u8,
+    pub closing: Option<Closing>,
+    pub mended: u8,
+}
+
+// Why a line was refused.
+#[derive(Clone, Copy, PartialEq, Eq)]
+pub enum Refusal {
+    Unlawful = 18,
+    ShortRecord = 12,
+    WrongLength = 10,
+    WrongFraming = 11,
+}
+
+impl Refusal {
+    // The number that document 01 gives the refusal.
+    #[tactic(auto, unfolding(crate::specs::Entries::refusal_number))]
+    pub fn number(self) -> u8
+        ensures { result ≡ refusal_number self }
+    {
+        self as u8
+    }
 }
 
 // The receiver after a line, and the line's answer.
-#[derive(Drop)]
+#[derive(Clone, Copy)]
 pub struct Stepped {
     pub receiver: Receiver,
-    pub answer: Answer,
-}
-
-// How playing a recording ended: at its end, or at a line that was refused or closed a page.
-#[derive(Clone, Copy)]
-pub enum Played {
-    End,
-    Stopped(Answer),
+    pub answer: Result<Taken, Refusal>,
 }
 
 // Mended bytes over some lines: how many there were, how many lines had one, and how many were in lines that are a page's own, its header and its rows (kinds 2 and 1).
@@ -121,13 +116,14 @@ pub struct Mended {
     pub own: usize,
 }
 
-// The receiver after a recording was played, how many lines were used, the bytes mended in them, the last included, and how it ended.
+// The receiver after a recording was played, how many lines were used, the bytes mended in them, the last included, and the answer that playing stopped at: that of
+// a line that was refused or closed a page, and none at the recording's end.
 #[derive(Clone, Copy)]
 pub struct Recorded {
     pub receiver: Receiver,
     pub used: usize,
     pub mended: Mended,
-    pub answer: Played,
+    pub answer: Option<Result<Taken, Refusal>>,
 }
 
 // No byte was mended.
@@ -135,20 +131,6 @@ const NONE_MENDED: Mended = Mended {
     bytes: 0,
     lines: 0,
     own: 0,
-};
-
-// Nothing is selected, and everything is zero.
-const ZERO_RECEIVER: Receiver = Receiver {
-    selection: Selection {
-        magazine: 0,
-        tens: 0,
-        units: 0,
-        when: When::Any,
-    },
-    open: false,
-    doubt: false,
-    header: ZERO_HEADER,
-    cells: ZERO_CELLS,
 };
 
 impl Receiver {
@@ -160,53 +142,51 @@ impl Receiver {
 
     pub const RECORD_LENGTH: usize = page::RECORD_LENGTH;
 
-    // A receiver for a selection, with no page open yet; zeros beside a refusal.
-    pub fn new(selection: Selection) -> New
-        ensures { (selected_paper result.answer ≡ made_answer selection) × (result.receiver ≡ made selection) }
+    // A receiver for a selection, with no page open yet.
+    #[tactic(auto, unfolding(crate::specs::Entries::made, crate::specs::Entries::made_in, crate::specs::Entries::made_answer, crate::specs::Selections::selected_paper))]
+    pub fn new(selection: Selection) -> Result<Receiver, OutOfRange>
+        ensures { (selected_paper result ≡ made_answer selection) × (made_in result ≡ made selection) }
     {
         if !in_range(selection) {
-            return New {
-                answer: Selected::OutOfRange,
-                receiver: ZERO_RECEIVER,
-            };
+            return Err(OutOfRange);
         }
-        let characters = [SPACE; Receiver::CELLS];
-        let marks = [NEVER; Receiver::CELLS];
-        let cells = Cells { characters, marks };
-        let receiver = Receiver {
+        Ok(Receiver {
             selection,
             open: false,
             doubt: false,
             header: ZERO_HEADER,
-            cells,
-        };
-        New {
-            answer: Selected::Ready,
-            receiver,
-        }
+            cells: BLANK,
+        })
     }
+}
+
+// What both entries do with a packet, and with what 10 and 11 had against it: 18 and 12 go before those.
+fn enter(
+    receiver: &mut Receiver,
+    looked: Result<(), Refusal>,
+    packet: &[u8],
+    record: &mut [u8],
+) -> Result<Taken, Refusal>
+    requires { OnOk looked (length packet.now ≡ packet_length) }
+    ensures { Meets (asked receiver.old «record».old (looked_at looked receiver.old packet.now «record».old)) (stepped_of receiver.new result) «record».new }
+{
+    asked(receiver, record.len())?;
+    looked?;
+    let shows = seen_of(receiver.selection.magazine, packet);
+    let mended = mended_bytes(shows, packet);
+    let done = follow(receiver, shows, packet, record);
+    Ok(taken_of(done, mended))
 }
 
 // A packet of 42 bytes, from a data field.
 pub fn take_packet(receiver: Receiver, packet: &[u8], record: &mut [u8]) -> Stepped
     ensures { Meets (packet_entered receiver packet.now «record».old) result «record».new }
 {
-    let mut characters = receiver.cells.characters;
-    let mut marks = receiver.cells.marks;
-    let standing = standing_of(receiver);
-    if let Asking::Refused(answer) = asked(standing, &characters, &marks, record.len()) {
-        return Stepped { receiver, answer };
-    }
-    if let Asking::Refused(answer) = packet_asked(packet) {
-        return Stepped { receiver, answer };
-    }
-    let shows = seen_of(standing.selection.magazine, packet);
-    let mended = mended_bytes(shows, packet);
-    let done = follow(standing, shows, packet, &mut characters, &mut marks, record);
-    let after = done.standing;
+    let mut after = receiver;
+    let answer = enter(&mut after, packet_asked(packet), packet, record);
     Stepped {
-        receiver: join(after, characters, marks),
-        answer: answer_of(done, mended),
+        receiver: after,
+        answer,
     }
 }
 
@@ -214,23 +194,16 @@ pub fn take_packet(receiver: Receiver, packet: &[u8], record: &mut [u8]) -> Step
 pub fn take_line(receiver: Receiver, line: &[u8], record: &mut [u8]) -> Stepped
     ensures { Meets (line_entered receiver line.now «record».old) result «record».new }
 {
-    let mut characters = receiver.cells.characters;
-    let mut marks = receiver.cells.marks;
-    let standing = standing_of(receiver);
-    if let Asking::Refused(answer) = asked(standing, &characters, &marks, record.len()) {
-        return Stepped { receiver, answer };
-    }
-    if let Asking::Refused(answer) = line_asked(line) {
-        return Stepped { receiver, answer };
-    }
-    let packet = packet::packet_of(line);
-    let shows = seen_of(standing.selection.magazine, packet);
-    let mended = mended_bytes(shows, packet);
-    let done = follow(standing, shows, packet, &mut characters, &mut marks, record);
-    let after = done.standing;
+    let mut after = receiver;
+    let answer = enter(
+        &mut after,
+        line_asked(line),
+        packet::packet_of(line),
+        record,
+    );
     Stepped {
-        receiver: join(after, characters, marks),
-        answer: answer_of(done, mended),
+        receiver: after,
+        answer,
     }
 }
 
@@ -239,35 +212,28 @@ pub fn take_line(receiver: Receiver, line: &[u8], record: &mut [u8]) -> Stepped
 pub fn take_recording(receiver: Receiver, recording: &[u8], record: &mut [u8]) -> Recorded
     ensures { PlaysAs (played receiver recording.now «record».old) result «record».new }
 {
-    if recording.len() == 0 {
+    if recording.is_empty() {
         return Recorded {
             receiver,
             used: 0,
             mended: NONE_MENDED,
-            answer: Played::End,
+            answer: None,
         };
     }
-    let mut characters = receiver.cells.characters;
-    let mut marks = receiver.cells.marks;
-    let standing = standing_of(receiver);
-    match asked(standing, &characters, &marks, record.len()) {
-        Asking::Refused(answer) => Recorded {
+    if let Err(refusal) = asked(&receiver, record.len()) {
+        return Recorded {
             receiver,
             used: 1,
             mended: NONE_MENDED,
-            answer: Played::Stopped(answer),
-        },
-        Asking::Fine => {
-            let ended = play(standing, recording, &mut characters, &mut marks, record);
-            let after = ended.standing;
-            let mended = ended.mended;
-            let answer = ended.answer;
-            Recorded {
-                receiver: join(after, characters, marks),
-                used: ended.used,
-                mended,
-                answer,
-            }
-        }
+            answer: Some(Err(refusal)),
+        };
+    }
+    let mut after = receiver;
+    let ended = play(&mut after, recording, record);
+    Recorded {
+        receiver: after,
+        used: ended.used,
+        mended: ended.mended,
+        answer: ended.answer,
     }
 }

@@ -9,9 +9,10 @@ ghost use Rattle.receiver.specs.Mended.{address_pair, brought, brought_by, is_ow
 ghost use Rattle.receiver.specs.Private.{Holds};
 
 use crate::kinds::Seen;
-use crate::{Answer, Mended, NONE_MENDED};
+use crate::{Mended, NONE_MENDED, Refusal, Taken};
 
 // Whether a byte was mended, as a number to be added.
+#[tactic(auto, unfolding(coding::specs::Hamming::how_many_corrected))]
 fn one_if_mended(byte: u8) -> u8
     ensures { result ≡ how_many_corrected (turned_byte byte ∷ []) }
 {
@@ -32,10 +33,8 @@ fn mended_control(packet: &[u8]) -> u8
     ensures { result ≡ how_many_corrected (control_bytes packet.now) }
 {
     let mut mended: u8 = 0;
-    let mut at = packet::ADDRESS_LENGTH;
-    while at < packet::HEADER_LENGTH {
+    for at in packet::ADDRESS_LENGTH..packet::HEADER_LENGTH {
         mended += one_if_mended(packet[at]);
-        at += 1;
     }
     mended
 }
@@ -55,6 +54,7 @@ pub(crate) fn mended_bytes(shows: Seen, packet: &[u8]) -> u8
 }
 
 // The mended bytes of a page's own line: its header, kind 2, or one of its rows, kind 1.
+#[tactic(auto, unfolding(crate::specs::Mended::is_own))]
 fn own_bytes(kind: u8, mended: u8) -> u8
     ensures { result ≡ cond (is_own kind) mended 0 }
 {
@@ -62,6 +62,7 @@ fn own_bytes(kind: u8, mended: u8) -> u8
 }
 
 // What a line of a kind adds.
+#[tactic(auto, unfolding(crate::specs::Mended::brought))]
 fn brought_by(kind: u8, mended: u8) -> Mended
     ensures { result ≡ brought kind mended }
 {
@@ -86,19 +87,12 @@ pub(crate) fn with_line(so: Mended, kind: u8, mended: u8) -> Mended
 }
 
 // What a line adds to the mended bytes of some lines, by its answer.
-pub fn mended_of(answer: Answer) -> Mended
+#[tactic(auto, unfolding(crate::specs::Mended::brought_by, crate::specs::Entries::answer_paper))]
+pub fn mended_of(answer: Result<Taken, Refusal>) -> Mended
     ensures { result ≡ brought_by (answer_paper answer) }
 {
     match answer {
-        Answer::Taken {
-            kind,
-            count: _,
-            closing: _,
-            mended,
-        } => brought_by(kind, mended),
-        Answer::Unlawful => NONE_MENDED,
-        Answer::ShortRecord => NONE_MENDED,
-        Answer::WrongLength => NONE_MENDED,
-        Answer::WrongFraming => NONE_MENDED,
+        Ok(taken) => brought_by(taken.kind, taken.mended),
+        Err(_) => NONE_MENDED,
     }
 }

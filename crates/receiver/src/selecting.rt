@@ -5,6 +5,7 @@ ghost use Rattle.receiver.specs.Selections.{in_range, matches, time_matches, whe
 use crate::{Selection, When};
 use packet::Header;
 
+#[tactic(auto, unfolding(crate::specs::Selections::when_in_range))]
 fn when_in_range(when: When) -> bool
     ensures { result ≡ when_in_range when }
 {
@@ -19,17 +20,18 @@ fn when_in_range(when: When) -> bool
     }
 }
 
+#[tactic(auto, unfolding(crate::specs::Selections::in_range))]
 pub(crate) fn in_range(selection: Selection) -> bool
     ensures { result ≡ in_range selection }
 {
-    let when = selection.when;
     (1 <= selection.magazine)
         & (selection.magazine <= 8)
         & (selection.tens <= 9)
         & (selection.units <= 9)
-        & when_in_range(when)
+        & when_in_range(selection.when)
 }
 
+#[tactic(auto, unfolding(crate::specs::Selections::time_matches))]
 fn time_matches(when: When, header: Header) -> bool
     ensures { result ≡ time_matches when header }
 {
@@ -50,9 +52,11 @@ fn time_matches(when: When, header: Header) -> bool
 }
 
 // Whether a header of the selected magazine is that of the selected page.
+#[tactic(auto, unfolding(crate::specs::Selections::matches))]
 pub(crate) fn is_selected(selection: Selection, header: Header) -> bool
     ensures { result ≡ matches selection header }
 {
-    let when = selection.when;
-    (header.tens == selection.tens) & (header.units == selection.units) & time_matches(when, header)
+    (header.tens == selection.tens)
+        & (header.units == selection.units)
+        & time_matches(selection.when, header)
 }

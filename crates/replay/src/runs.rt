@@ -1,6 +1,6 @@
 // Sorts s and r: a new receiver, and a run: a receiver that lines, packets and recordings are taken by, one after the other, through the entries of the library.
 use crate::forms;
-use receiver::{Answer, Closing, Mended, Played, Receiver, Selected, Stepped};
+use receiver::{Mended, OutOfRange, Receiver, Refusal, Stepped, Taken};
 
 // What stands before the bytes of a step: its entry, and its length in two bytes.
 const STEP: usize = 3;
@@ -8,63 +8,42 @@ const STEP: usize = 3;
 // The kind that is said where a recording came to its end.
 const AT_END: u8 = 0xFF;
 
-fn put_selected(rt: &(impl Print + Eprint), answer: Selected) {
-    match answer {
-        Selected::Ready => cases::put_byte(rt, 0),
-        Selected::OutOfRange => cases::put_byte(rt, 13),
-    }
-}
+// The number of a selection that is out of range.
+const OUT_OF_RANGE: u8 = 13;
 
 pub(crate) fn answer_selection(rt: &(impl Print + Eprint), input: &[u8]) {
-    let new = Receiver::new(forms::selection_of(input));
-    let answer = new.answer;
-    put_selected(rt, answer);
-    let receiver = new.receiver;
-    forms::put_receiver(rt, receiver);
-}
-
-fn closing_number(closing: Closing) -> u8 {
-    match closing {
-        Closing::None => 0,
-        Closing::Clean => 1,
-        Closing::Doubt => 2,
+    match Receiver::new(forms::selection_of(input)) {
+        Ok(receiver) => {
+            cases::put_byte(rt, 0);
+            forms::put_receiver(rt, &receiver);
+        }
+        Err(OutOfRange) => {
+            cases::put_byte(rt, OUT_OF_RANGE);
+            forms::put_no_receiver(rt);
+        }
     }
 }
 
-fn answer_bytes(answer: Answer) -> [u8; 5] {
+fn put_answer(rt: &(impl Print + Eprint), answer: Result<Taken, Refusal>) {
     match answer {
-        Answer::Taken {
-            kind,
-            count,
-            closing,
-            mended,
-        } => [0, kind, count, closing_number(closing), mended],
-        Answer::Unlawful => [18, 0, 0, 0, 0],
-        Answer::ShortRecord => [12, 0, 0, 0, 0],
-        Answer::WrongLength => [10, 0, 0, 0, 0],
-        Answer::WrongFraming => [11, 0, 0, 0, 0],
+        Ok(taken) => {
+            let closing = taken.closing.map_or(0, |closing| closing as u8);
+            cases::put(rt, &[0, taken.kind, taken.count, closing, taken.mended]);
+        }
+        Err(refusal) => cases::put(rt, &[refusal.number(), 0, 0, 0, 0]),
     }
 }
 
-fn put_answer(rt: &(impl Print + Eprint), answer: Answer) {
-    let bytes = answer_bytes(answer);
-    cases::put(rt, &bytes);
-}
-
-fn last_answer(played: Played) -> Answer {
-    match played {
-        Played::Stopped(answer) => answer,
-        Played::End => Answer::Taken {
-            kind: AT_END,
-            count: 0,
-            closing: Closing::None,
-            mended: 0,
-        },
-    }
-}
+// What stands for the answer of a recording that came to its end.
+const ENDED: Taken = Taken {
+    kind: AT_END,
+    count: 0,
+    closing: None,
+    mended: 0,
+};
 
 fn put_count(rt: &(impl Print + Eprint), count: usize) {
-    let bytes = [(count / 256 % 256) as u8, (count % 256) as u8];
+    let bytes = ((count % 0x1_0000) as u16).to_be_bytes();
     cases::put(rt, &bytes);
 }
 
@@ -83,14 +62,10 @@ fn play(
 ) -> Stepped {
     let recorded = receiver::take_recording(receiver, bytes, record);
     put_count(rt, recorded.used);
-    let mended = recorded.mended;
-    put_mended(rt, mended);
-    let played = recorded.answer;
-    let answer = last_answer(played);
-    let after = recorded.receiver;
+    put_mended(rt, recorded.mended);
     Stepped {
-        receiver: after,
-        answer,
+        receiver: recorded.receiver,
+        answer: recorded.answer.unwrap_or(Ok(ENDED)),
     }
 }
 
@@ -119,8 +94,7 @@ fn take_step(
 ) -> Receiver {
     let bytes = cases::start(cases::rest(step, STEP), size);
     let stepped = take(rt, cases::byte_at(step, 0), receiver, bytes, record);
-    let answer = stepped.answer;
-    put_answer(rt, answer);
+    put_answer(rt, stepped.answer);
     cases::put(rt, record);
     stepped.receiver
 }
@@ -132,18 +106,17 @@ fn take_each(
     record: &mut [u8],
 ) -> Receiver {
     let mut current = receiver;
-    let mut place = 0;
-    while place < steps.len() {
-        let step = cases::rest(steps, place);
-        let size = cases::double(cases::rest(step, 1)) as usize;
-        let next = take_step(rt, current, step, size, record);
-        current = next;
-        place = place + STEP + size;
+    let mut left = steps;
+    while !left.is_empty() {
+        let size = cases::double(cases::rest(left, 1)) as usize;
+        current = take_step(rt, current, left, size, record);
+        left = cases::rest(left, STEP + size);
     }
     current
 }
 
 pub(crate) fn answer_run(rt: &(impl Print + Eprint), input: &[u8], record: &mut [u8]) {
     let steps = cases::rest(input, forms::RECEIVER_LENGTH);
-    forms::put_receiver(rt, take_each(rt, forms::receiver_of(input), steps, record));
+    let receiver = take_each(rt, forms::receiver_of(input), steps, record);
+    forms::put_receiver(rt, &receiver);
 }

@@ -14,7 +14,6 @@ use Rattle.packet.specs.Headers.{header_of}
 use Rattle.packet.specs.Lines.{packet_length}
 use Rattle.packet.specs.Back.{in_bits}
 use Rattle.packet.specs.Writing.{header_packet}
-use Rattle.packet.specs.declared.Address.TheVariants.{Whole}
 use Rattle.packet.specs.declared.Header.{Header}
 use Rattle.packet.proofs.ByRules.{header-by-rules}
 use Rattle.packet.proofs.Packets.{header-address, header-packet-length, header_read, line-framed, packet-back}
@@ -22,6 +21,7 @@ use Rattle.page.specs.Reading.{page_read}
 use Rattle.page.specs.declared.Page.{Page}
 use Rattle.receiver.specs.Selections.{in_range, matches, time_matches, when_in_range}
 use Rattle.receiver.specs.declared.Selection.{Selection}
+use Rattle.receiver.proofs.Causes.{as_whole}
 use Rattle.sending.specs.Closing.{closing_line, no_digit, of_no_page}
 use Rattle.sending.specs.Sending.{row_characters, with_c4}
 use Rattle.returning.specs.Returned.{ClosingEnds, Ends, Feeds, SentAndClosed}
@@ -68,7 +68,7 @@ module _ (page : Page) (taken : Taken page) where
         framing = line-framed (header_packet page.magazine closing text) packet-whole;
         address =
             ap address_of (packet-back (header_packet page.magazine closing text) packet-whole)
-            ∙ (header-address page.magazine closing text whole ∙ ap (λ (m : ℕ). Whole m 0) (same-magazine page taken));
+            ∙ (header-address page.magazine closing text whole ∙ ap (λ (m : ℕ). as_whole m 0) (same-magazine page taken));
         header = in_bits closing;
         numbers =
             ap header_of (packet-back (header_packet page.magazine closing text) packet-whole)
@@ -90,7 +90,7 @@ sent_and_closed bytes wanted room selection lent taken choice range ours matched
       magazine = ours;
       matched = matched;
       framing = ended.framing;
-      address = ended.address ∙ ap (λ (m : ℕ). Whole m 0) (sym ours);
+      address = ended.address ∙ ap (λ (m : ℕ). as_whole m 0) (sym ours);
       lends = lends;
     } in (
       feeds,

@@ -5,8 +5,8 @@ use mathlib.Core.List.{List}
 use Prim.Native.Nat.{ℕ, zero, suc, ◌-◌, ◌≤◌, ◌<◌}
 use native.Mathlib.Omega.{arith}
 use lib.Dec.{T}
-use lib.ListN.{drop, get_or, length, take}
-use lib.Seq.{take_at}
+use lib.ListN.{get_or, length, take}
+use Rattle.std.specs.Prelude.{Ok, None, Some}
 use Rattle.laws.specs.Paper.{accepted}
 use Rattle.laws.proofs.Bools.{passed}
 use Rattle.grid.specs.Grid.{columns, last_row}
@@ -14,14 +14,11 @@ use Rattle.packet.specs.Addresses.{address_of}
 use Rattle.packet.specs.Lines.{framed, packet_of}
 use Rattle.packet.specs.Texts.{header_column}
 use Rattle.packet.specs.declared.Address.TheVariants.{Whole}
-use Rattle.packet.specs.declared.Framed.TheVariants.{Packet}
 use Rattle.page.specs.Reading.{page_read, read_answer}
 use Rattle.page.specs.Records.{record_length, record_of}
 use Rattle.page.specs.declared.Page.{Page}
-use Rattle.page.specs.declared.ReadAnswer.TheVariants.{Read}
-use Rattle.page.proofs.Trips.{length_record, page-read-back, reads-written}
 use Rattle.receiver.specs.Effects.{Outcome, held, taken}
-use Rattle.receiver.specs.Entries.{Entered, closing_number, entered, lawful, line_entered, line_values, made, new_receiver, packet_gives}
+use Rattle.receiver.specs.Entries.{Entered, closing_number, entered, line_entered, line_values, made, new_receiver, packet_gives}
 use Rattle.receiver.specs.Mended.{packet_mended}
 use Rattle.receiver.specs.Selections.{in_range, matches}
 use Rattle.receiver.specs.declared.Closing.TheVariants as closing
@@ -31,8 +28,7 @@ use Rattle.receiver.proofs.Addressed.{zeroth-closes}
 use Rattle.receiver.proofs.Carried.{Going}
 use Rattle.receiver.proofs.Closings.{clean-closing, closes_clean}
 use Rattle.receiver.proofs.Entering.{length_packet, line-is-taken}
-use Rattle.receiver.proofs.Sized.{Sized}
-use Rattle.receiver.proofs.Writes.{page-written}
+use Rattle.receiver.proofs.Causes.{as_whole}
 use Rattle.sending.specs.Sending.{chosen_rows, header_line, line_count, lines_of, row_characters, row_line, with_c4}
 use Rattle.sending.proofs.Lines.{lines_count}
 use Rattle.sending.proofs.Rows.{chosen-high, chosen-low}
@@ -50,7 +46,7 @@ use Rattle.returning.proofs.Taking.{opened-answer, stored_answer}
 
 -- ---- a line of a run whose framing passes is taken
 
-module _ (run : Run) (ready : Ready run) (k : ℕ) (line : List ℕ) (at : received_at run.lines k ≡ line) (framing : framed line ≡ Packet) where
+module _ (run : Run) (ready : Ready run) (k : ℕ) (line : List ℕ) (at : received_at run.lines k ≡ line) (framing : framed line ≡ Ok tt) where
   abbrev taken_at : Outcome
   taken_at = taken (receiver_at run ready k) (packet_of line) (lent_at run ready k)
 
@@ -66,9 +62,9 @@ module _ (run : Run) (ready : Ready run) (k : ℕ) (line : List ℕ) (at : recei
 
 -- ---- our row 0 closes a page without doubt
 
-module _ (receiver : Receiver) (line lent : List ℕ) (framing : framed line ≡ Packet)
-    (address : address_of (packet_of line) ≡ Whole receiver.selection.magazine 0) (going : Going receiver) where
-  closes-going : (taken receiver (packet_of line) lent).closing ≡ closing.Clean
+module _ (receiver : Receiver) (line lent : List ℕ) (framing : framed line ≡ Ok tt)
+    (address : address_of (packet_of line) ≡ Ok (Whole receiver.selection.magazine 0)) (going : Going receiver) where
+  closes-going : (taken receiver (packet_of line) lent).closing ≡ Some closing.Clean
   closes-going =
       zeroth-closes receiver (packet_of line) lent address (length_packet line framing) ∙ closes_clean receiver going.0 going.1
 
@@ -118,7 +114,7 @@ module _ (bytes : List ℕ) (wanted : List Bool) (selection : Selection) (furthe
   matched : T (matches (before 0).selection page.header)
   matched = subst (λ (s : Selection). T (matches s page.header)) (sym (selects 0)) feeds.matched
 
-  opens-clean : (entry_at run 0).answer ≡ accepted (line_values 2 (columns - header_column) closing.None 0)
+  opens-clean : (entry_at run 0).answer ≡ accepted (line_values 2 (columns - header_column) None 0)
   opens-clean =
       ap (λ (e : Entered). e.answer) (entry-taken run ready 0 (header_line page) at-header gives.header_row.framing)
       ∙ opened-answer (before 0) (header_line page) (lent_before 0) (with_c4 page.header) (row_characters page.cells.characters 0)
@@ -141,7 +137,7 @@ module _ (bytes : List ℕ) (wanted : List Bool) (selection : Selection) (furthe
     high : get_or rows n 0 ≤ last_row
     high = omega (arith, chosen-high wanted n below, feeds.choice)
 
-    row-framing : framed (row_line page (get_or rows n 0)) ≡ Packet
+    row-framing : framed (row_line page (get_or rows n 0)) ≡ Ok tt
     row-framing = (gives.rows (get_or rows n 0) low high).framing
 
   holding-at : (n : ℕ) → n ≤ length rows → Holding page rows n (before (suc n))
@@ -153,7 +149,7 @@ module _ (bytes : List ℕ) (wanted : List Bool) (selection : Selection) (furthe
       (holding-next page gives rows n (low n h) (high n h) (before (suc n)) (lent_before (suc n)) (ours (suc n)) (standing run ready (suc n)).sized
       (holding-at n (omega arith)))
 
-  stores-all : (n : ℕ) → n < length rows → (entry_at run (suc n)).answer ≡ accepted (line_values 1 columns closing.None 0)
+  stores-all : (n : ℕ) → n < length rows → (entry_at run (suc n)).answer ≡ accepted (line_values 1 columns None 0)
   stores-all n h =
       let was = holding-at n (omega arith) in
       ap (λ (e : Entered). e.answer) (entry-taken run ready (suc n) (row_line page (get_or rows n 0)) (at_row n h) (row-framing n h))
@@ -161,7 +157,7 @@ module _ (bytes : List ℕ) (wanted : List Bool) (selection : Selection) (furthe
       (row-given page gives (before (suc n)) (ours (suc n)) (get_or rows n 0) (low n h) (high n h))
       (low n h) (high n h) was.going
 
-  stores-line : (k : ℕ) → 1 ≤ k → k < line_count wanted → (entry_at run k).answer ≡ accepted (line_values 1 columns closing.None 0)
+  stores-line : (k : ℕ) → 1 ≤ k → k < line_count wanted → (entry_at run k).answer ≡ accepted (line_values 1 columns None 0)
   stores-line zero first h = absurd (omega arith)
   stores-line (suc n) first h = stores-all n (omega (arith, count-is page wanted))
 
@@ -185,10 +181,10 @@ module _ (bytes : List ℕ) (wanted : List Bool) (selection : Selection) (furthe
   at_end : entry_at run end ≡ entered last mended
   at_end = entry-taken run ready end further at-further feeds.framing
 
-  zeroth : address_of (packet_of further) ≡ Whole (before end).selection.magazine 0
-  zeroth = feeds.address ∙ ap (λ (s : Selection). Whole s.magazine 0) (sym (selects end))
+  zeroth : address_of (packet_of further) ≡ Ok (Whole (before end).selection.magazine 0)
+  zeroth = feeds.address ∙ ap (λ (s : Selection). as_whole s.magazine 0) (sym (selects end))
 
-  closes-end : closing_of (entry_at run end) ≡ closing_number closing.Clean
+  closes-end : closing_of (entry_at run end) ≡ closing_number (Some closing.Clean)
   closes-end =
       ap closing_of at_end
       ∙ (closing_entered last mended

@@ -9,6 +9,7 @@ use native.Mathlib.Omega.{arith}
 use lib.Dec.{T, ltb→lt}
 use lib.ListN.{length, get_or, drop, replicate, get_or-replicate, length-map, length-replicate}
 use lib.Seq.{ext_get_or}
+use Rattle.std.specs.Prelude.{Ok}
 use Rattle.laws.specs.Every.{every}
 use Rattle.laws.specs.Fields.{fits}
 use Rattle.laws.proofs.Bools.{both_left, both_right}
@@ -22,13 +23,11 @@ use Rattle.packet.specs.Addresses.{address_of, magazine_of}
 use Rattle.packet.specs.Headers.{header_of, header_values}
 use Rattle.packet.specs.Lines.{packet_length, packet_of}
 use Rattle.packet.specs.Sent.{sent_by_rules, sent_magazine, sent_row}
-use Rattle.packet.specs.Texts.{column_bytes, text_of}
+use Rattle.packet.specs.Texts.{Text, column_bytes, text_of}
 use Rattle.packet.specs.Back.{in_bits}
 use Rattle.packet.specs.Writing.{data_line, header_packet, row_packet}
 use Rattle.packet.specs.declared.Address.TheVariants.{Whole}
 use Rattle.packet.specs.declared.Header.{Header}
-use Rattle.packet.specs.declared.HeaderRead.TheVariants.{Good}
-use Rattle.packet.specs.declared.Text.{Text}
 use Rattle.packet.proofs.Back.{bits-same, magazine_same, sent_for}
 use Rattle.packet.proofs.ByRules.{header-by-rules, header-magazine-sent, header-row-sent}
 use Rattle.packet.proofs.ByRules.{row-by-rules, row-magazine-sent, row-row-sent}
@@ -38,9 +37,9 @@ use Rattle.packet.proofs.Whole.{whole_text}
 use Rattle.page.specs.Reading.{page_read, read_answer}
 use Rattle.page.specs.Records.{character_width}
 use Rattle.page.specs.declared.Page.{Page}
-use Rattle.page.specs.declared.ReadAnswer.TheVariants.{Read}
 use Rattle.receiver.specs.Cells.{first_column, row_found}
 use Rattle.receiver.proofs.Rows.{text_first}
+use Rattle.receiver.proofs.Causes.{as_whole}
 use Rattle.sending.specs.Sending.{chosen_rows, header_line, line_count, lines_of, row_characters, row_line, with_c4}
 use Rattle.sending.proofs.Lines.{every-line, lines_count, row_characters_law}
 use Rattle.sending.proofs.Rows.{chosen-high, chosen-low, chosen_rising}
@@ -64,7 +63,7 @@ characters_found (code ∷ codes) fit =
 
 -- a packet whose columns hold characters that fit gives them
 module _ (packet : List ℕ) (whole : length packet ≡ packet_length) (magazine row : ℕ) (codes : List ℕ) where
-  gives_row : T (sent_by_rules (data_line packet)) → address_of packet ≡ Whole magazine row → T (every (fits character_width) codes)
+  gives_row : T (sent_by_rules (data_line packet)) → address_of packet ≡ Ok (Whole magazine row) → T (every (fits character_width) codes)
       → drop (first_column row) (column_bytes packet) ≡ map sent_for (drop (first_column row) codes)
       → GivesRow (data_line packet) magazine row codes
   unfolding row_found
@@ -123,14 +122,14 @@ module _ (page : Page) (taken : Taken page) where
   unfolding header_line first_column
   header-gives-row =
       gives_row (header_packet page.magazine header header_codes) header-packet-whole page.magazine 0 header_codes header-line-by-rules
-      (header-address page.magazine header header_codes header-whole ∙ ap (λ (m : ℕ). Whole m 0) same-magazine) (characters_fit 0)
+      (header-address page.magazine header header_codes header-whole ∙ ap (λ (m : ℕ). as_whole m 0) same-magazine) (characters_fit 0)
       (header-text-bytes page.magazine header header_codes header-whole ∙ header_columns page.magazine header header_codes header-whole)
 
-  header-given : header_of (packet_of (header_line page)) ≡ Good header
+  header-given : header_of (packet_of (header_line page)) ≡ Ok header
   unfolding header_line
   header-given =
       ap header_of (packet-back (header_packet page.magazine header header_codes) header-packet-whole)
-      ∙ (header_read page.magazine header header_codes header-whole ∙ ap Good header_fits_law)
+      ∙ (header_read page.magazine header header_codes header-whole ∙ ap Ok header_fits_law)
 
   header-line-magazine : sent_magazine (header_line page) ≡ page.magazine
   unfolding header_line
@@ -164,7 +163,7 @@ module _ (page : Page) (taken : Taken page) where
     unfolding row_line
     row-gives-row =
         gives_row (row_packet page.magazine row codes) (row-packet-length page.magazine row codes row-whole) page.magazine row codes row-line-by-rules
-        (row-address page.magazine row codes row-whole ∙ (λ i. Whole (same-magazine i) (same_row i))) (characters_fit row) row-text
+        (row-address page.magazine row codes row-whole ∙ (λ i. as_whole (same-magazine i) (same_row i))) (characters_fit row) row-text
 
     row-line-magazine : sent_magazine (row_line page row) ≡ page.magazine
     unfolding row_line
@@ -214,7 +213,7 @@ module _ (page : Page) (taken : Taken page) where
 
 -- ---- a record that the reader takes
 
-pub gives_read : (bytes : List ℕ) → read_answer bytes ≡ Read → Gives (page_read bytes)
+pub gives_read : (bytes : List ℕ) → read_answer bytes ≡ Ok tt → Gives (page_read bytes)
 gives_read bytes taken = gives (page_read bytes) (taken-page bytes taken)
 
 pub lines_by_the_rules : LinesByTheRules

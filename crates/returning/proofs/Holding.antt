@@ -2,22 +2,20 @@
 use mathlib.Core.Path.{◌≡◌, refl, sym, ap, subst, ◌∙◌}
 use mathlib.Core.Bool.{Bool, true, ◌&&◌}
 use mathlib.Core.List.{List}
-use Prim.Native.Nat.{ℕ, suc, ◌^◌, ◌+◌, ◌-◌, ◌/◌, ◌%◌, ◌≤◌, ◌<◌}
+use Prim.Native.Nat.{ℕ, suc, ◌≤◌, ◌<◌}
 use native.Mathlib.Decide.{ℕ_discrete}
 use native.Mathlib.Omega.{arith}
-use borrow.Author.Tests.{eq-eqb}
 use lib.Dec.{T, eqb}
 use lib.ListN.{get_or}
 use Rattle.laws.proofs.Bools.{passed}
 use Rattle.grid.specs.Grid.{columns, last_row}
-use Rattle.packet.specs.Headers.{control_bit}
 use Rattle.packet.specs.Lines.{packet_of}
 use Rattle.packet.specs.Texts.{header_column}
 use Rattle.packet.specs.declared.Header.{Header}
 use Rattle.page.specs.Lawful.{fresh, never, space}
 use Rattle.page.specs.declared.Cells.{Cells}
 use Rattle.page.specs.declared.Page.{Page}
-use Rattle.receiver.specs.Effects.{clears, taken}
+use Rattle.receiver.specs.Effects.{taken}
 use Rattle.receiver.specs.Selections.{matches, time_matches}
 use Rattle.receiver.specs.declared.Receiver.{Receiver}
 use Rattle.receiver.specs.declared.Selection.{Selection}

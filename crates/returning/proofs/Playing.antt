@@ -9,6 +9,7 @@ use native.Mathlib.Omega.{arith}
 use lib.Dec.{eqb}
 use lib.ListN.{get_or-append, drop, get_or, length, take}
 use lib.Seq.{get_or_at}
+use Rattle.std.specs.Prelude.{None, Some}
 use Rattle.laws.specs.Paper.{Paper, accepted}
 use Rattle.grid.specs.Grid.{columns}
 use Rattle.packet.specs.Lines.{line_length}
@@ -36,7 +37,7 @@ use Rattle.returning.proofs.Lines.{all_length, all_lines, fed-at, fed-length}
 
 -- it closes nothing, and nothing was mended
 abbrev Quiet : Paper → ℕ → ℕ → Type 0
-Quiet answer kind count = answer ≡ accepted (line_values kind count closing.None 0)
+Quiet answer kind count = answer ≡ accepted (line_values kind count None 0)
 
 goes_on_law : (kind count : ℕ) (answer : Paper) → Quiet answer kind count → goes_on answer ≡ true
 unfolding goes_on is_accepted accepted line_values closing_number
@@ -46,7 +47,7 @@ brings_none : (kind count : ℕ) (answer : Paper) → Quiet answer kind count �
 unfolding brought_by accepted line_values
 brings_none kind count answer e = ap brought_by e ∙ brought_none kind
 
-stops : (entry : Entered) → closing_of entry ≡ closing_number closing.Clean → goes_on entry.answer ≡ false
+stops : (entry : Entered) → closing_of entry ≡ closing_number (Some closing.Clean) → goes_on entry.answer ≡ false
 unfolding goes_on closing_of closing_number
 stops entry e =
     ap (λ (n : ℕ). is_accepted entry.answer.number && eqb n 0) e ∙ and-false (is_accepted entry.answer.number)

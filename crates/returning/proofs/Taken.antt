@@ -5,6 +5,7 @@ use mathlib.Core.List.{List}
 use Prim.Native.Nat.{ℕ, ◌≤◌}
 use lib.Dec.{T}
 use lib.ListN.{length}
+use Rattle.std.specs.Prelude.{Ok}
 use Rattle.laws.specs.Every.{every}
 use Rattle.laws.specs.Fields.{fits}
 use Rattle.laws.proofs.Bools.{both_true}
@@ -15,7 +16,6 @@ use Rattle.page.specs.Lawful.{cells_fit}
 use Rattle.page.specs.Reading.{page_in, page_read, read_answer}
 use Rattle.page.specs.Records.{character_width, header_widths, mark_width}
 use Rattle.page.specs.declared.Page.{Page}
-use Rattle.page.specs.declared.ReadAnswer.TheVariants.{Read}
 use Rattle.page.proofs.AnyRows.{fit-header, magazine-in, parts}
 use Rattle.page.proofs.Trips.{page-read, whole-read, writes-read}
 
@@ -25,7 +25,7 @@ pub record Taken (page : Page) : Type 0 where
   pub sized : length page.cells.characters ≡ cell_count
   pub characters : T (every (fits character_width) page.cells.characters)
 
-module _ (bytes : List ℕ) (taken : read_answer bytes ≡ Read) where
+module _ (bytes : List ℕ) (taken : read_answer bytes ≡ Ok tt) where
   characters_fit : every (fits character_width) (page_in bytes).cells.characters ≡ true
   unfolding cells_fit
   characters_fit =

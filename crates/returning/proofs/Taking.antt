@@ -7,6 +7,8 @@ use Prim.Native.Nat.{ℕ, ◌+◌, ◌-◌, ◌≤◌, ◌<◌}
 use native.Mathlib.Omega.{arith}
 use lib.ListN.{drop, get_or, get_or-replicate, length, length-drop, length-map}
 use lib.Seq.{get_or-drop}
+use Rattle.std.specs.Prelude as code
+use Rattle.std.specs.Prelude.{Ok, None}
 use Rattle.laws.specs.Paper.{accepted}
 use Rattle.laws.proofs.Lists.{get_d_map}
 use Rattle.coding.specs.Characters.{character}
@@ -15,7 +17,6 @@ use Rattle.packet.specs.Headers.{header_of}
 use Rattle.packet.specs.Lines.{packet_of}
 use Rattle.packet.specs.Texts.{header_column, text_of}
 use Rattle.packet.specs.declared.Header.{Header}
-use Rattle.packet.specs.declared.HeaderRead.TheVariants as header
 use Rattle.page.specs.Lawful.{fresh, never, space}
 use Rattle.page.specs.declared.Cells.{Cells}
 use Rattle.receiver.specs.Cells.{aged, blank, first_column, how_many, one_missing, row_found, stored}
@@ -24,7 +25,6 @@ use Rattle.receiver.specs.Entries.{entered, line_values, packet_gives}
 use Rattle.receiver.specs.Kinds.{seen}
 use Rattle.receiver.specs.Selections.{matches}
 use Rattle.receiver.specs.declared.Closing.{Closing}
-use Rattle.receiver.specs.declared.Closing.TheVariants as closing
 use Rattle.receiver.specs.declared.Receiver.{Receiver}
 use Rattle.receiver.proofs.Addressed.{stores-text}
 use Rattle.receiver.proofs.Carried.{Going}
@@ -113,11 +113,11 @@ module _ (receiver : Receiver) (line lent : List ℕ) (row : ℕ) (characters : 
       ∙ omega (arith, length_found row (text_of (packet_of line)).bytes (length_text (packet_of line)), text_first row first)
 
   -- kind 1, all forty are counted, and nothing is mended
-  pub stored_answer : (packet_gives receiver (packet_of line) lent).answer ≡ accepted (line_values 1 columns closing.None 0)
+  pub stored_answer : (packet_gives receiver (packet_of line) lent).answer ≡ accepted (line_values 1 columns None 0)
   unfolding entered text_taken
   stored_answer =
       ap₂ (λ (o : Outcome) (mended : ℕ). (entered o mended).answer) stores.gives (unmended receiver line gives.rules)
-      ∙ ap (λ (n : ℕ). accepted (line_values 1 n closing.None 0)) counted
+      ∙ ap (λ (n : ℕ). accepted (line_values 1 n None 0)) counted
 
   pub stored-going : Going outcome.receiver
   stored-going = (
@@ -141,7 +141,7 @@ module _ (receiver : Receiver) (line lent : List ℕ) (row : ℕ) (characters : 
 -- ---- a header that matches
 
 module _ (receiver : Receiver) (line lent : List ℕ) (found : Header) (characters : List ℕ)
-    (gives : GivesRow line receiver.selection.magazine 0 characters) (read : header_of (packet_of line) ≡ header.Good found)
+    (gives : GivesRow line receiver.selection.magazine 0 characters) (read : header_of (packet_of line) ≡ Ok found)
     (matched : matches receiver.selection found ≡ true) where
   abbrev opening : Outcome
   opening = taken receiver (packet_of line) lent
@@ -168,12 +168,12 @@ module _ (receiver : Receiver) (line lent : List ℕ) (found : Header) (characte
   opened-header = opening-header receiver (packet_of line) lent opening opens
 
   -- kind 2 with all 32 counted, nothing mended, and nothing to close where no page was open
-  pub opened-answer : receiver.«open» ≡ false → (packet_gives receiver (packet_of line) lent).answer ≡ accepted (line_values 2 (columns - header_column) closing.None 0)
+  pub opened-answer : receiver.«open» ≡ false → (packet_gives receiver (packet_of line) lent).answer ≡ accepted (line_values 2 (columns - header_column) None 0)
   unfolding entered header_taken
   opened-answer shut =
       ap₂ (λ (o : Outcome) (mended : ℕ). accepted (line_values o.kind opening.count o.closing mended)) opens.gives (unmended receiver line gives.rules)
       ∙ (ap (λ (n : ℕ). accepted (line_values 2 n (closing_word receiver) 0)) (opening-count receiver (packet_of line) lent opening opens sure)
-      ∙ ap (λ (word : Closing). accepted (line_values 2 (columns - header_column) word 0)) (none_open receiver shut))
+      ∙ ap (λ (word : code.Option Closing). accepted (line_values 2 (columns - header_column) word 0)) (none_open receiver shut))
 
   -- row 0 has its characters
   pub opened-cell : Sized receiver.cells → (column : ℕ) → header_column ≤ column → column < columns

@@ -2,7 +2,7 @@
 -- clean, with the chosen rows fresh and equal and all others never. And each line is sent by the rules, so that demand 3 speaks of it.
 --
 -- Each law is a type, and its proof stands in proofs/.
-use Rattle.std.specs.Prelude.{◌≡◌, Bool, true, false, List, [], ◌∷◌, ◌++◌, map, ℕ, suc, ◌-◌, ◌≤◌, ◌<◌, T, length, get_or, take, drop, replicate}
+use Rattle.std.specs.Prelude.{◌≡◌, Bool, true, false, List, [], ◌∷◌, ◌++◌, map, ℕ, suc, ◌-◌, ◌≤◌, ◌<◌, T, length, get_or, take, drop, replicate, Ok, None, Some}
 use Rattle.laws.specs.Every.{every}
 use Rattle.laws.specs.Paper.{accepted}
 use Rattle.grid.specs.Grid.{columns, last_row}
@@ -12,14 +12,11 @@ use Rattle.packet.specs.Lines.{framed, packet_of}
 use Rattle.packet.specs.Sent.{sent_by_rules, sent_magazine, sent_row}
 use Rattle.packet.specs.Texts.{header_column}
 use Rattle.packet.specs.declared.Address.TheVariants.{Whole}
-use Rattle.packet.specs.declared.Framed.TheVariants.{Packet}
 use Rattle.packet.specs.declared.Header.{Header}
-use Rattle.packet.specs.declared.HeaderRead.TheVariants.{Good}
 use Rattle.page.specs.Lawful.{fresh, never, space}
 use Rattle.page.specs.Reading.{page_read, read_answer}
 use Rattle.page.specs.Records.{record_length}
 use Rattle.page.specs.declared.Page.{Page}
-use Rattle.page.specs.declared.ReadAnswer.TheVariants.{Read}
 use Rattle.receiver.specs.Entries.{closing_number, line_values, made}
 use Rattle.receiver.specs.Mended.{brought_by}
 use Rattle.receiver.specs.Recordings.{Playing, played, stopped_at}
@@ -47,7 +44,7 @@ abbrev pub ForEachRow : List Bool → Type 0
 ForEachRow wanted = length wanted ≡ last_row
 
 abbrev pub LinesByTheRules : Type 0
-LinesByTheRules = (bytes : List ℕ) (wanted : List Bool) → read_answer bytes ≡ Read → ForEachRow wanted → ByTheRules (page_read bytes) wanted
+LinesByTheRules = (bytes : List ℕ) (wanted : List Bool) → read_answer bytes ≡ Ok tt → ForEachRow wanted → ByTheRules (page_read bytes) wanted
 
 -- ---- feeding back
 
@@ -60,13 +57,13 @@ fed selection lent lines further =
 -- a record that the reader takes; a lawful selection that its header matches, at any time, or its own; a further line whose framing passes and whose
 -- address is read as row 0 of the magazine, whatever else it holds; and a lent record that is long enough
 pub record Feeds (bytes : List ℕ) (wanted : List Bool) (selection : Selection) (further lent : List ℕ) : Type 0 where
-  pub read : read_answer bytes ≡ Read
+  pub read : read_answer bytes ≡ Ok tt
   pub choice : ForEachRow wanted
   pub range : T (in_range selection)
   pub magazine : selection.magazine ≡ (page_read bytes).magazine
   pub matched : T (matches selection (page_read bytes).header)
-  pub framing : framed further ≡ Packet
-  pub address : address_of (packet_of further) ≡ Whole selection.magazine 0
+  pub framing : framed further ≡ Ok tt
+  pub address : address_of (packet_of further) ≡ Ok (Whole selection.magazine 0)
   pub lends : record_length ≤ length lent
 
 -- a row that was chosen is equal and fresh, any other is space and never
@@ -101,10 +98,10 @@ pub record Returned (given : Page) (wanted : List Bool) (page : Page) : Type 0 w
 
 -- the header's line is kind 2 with count 32, each row's kind 1 with count 40, no byte of them is mended, and the further line closes clean
 pub record ComesBack (given : Page) (wanted : List Bool) (run : Run) : Type 0 where
-  pub opens : (entry_at run 0).answer ≡ accepted (line_values 2 (columns - header_column) closing.None 0)
-  pub stores : (k : ℕ) → 1 ≤ k → k < line_count wanted → (entry_at run k).answer ≡ accepted (line_values 1 columns closing.None 0)
-  pub closes : closing_of (entry_at run (line_count wanted)) ≡ closing_number closing.Clean
-  pub reads : read_answer (record_after run (line_count wanted)) ≡ Read
+  pub opens : (entry_at run 0).answer ≡ accepted (line_values 2 (columns - header_column) None 0)
+  pub stores : (k : ℕ) → 1 ≤ k → k < line_count wanted → (entry_at run k).answer ≡ accepted (line_values 1 columns None 0)
+  pub closes : closing_of (entry_at run (line_count wanted)) ≡ closing_number (Some closing.Clean)
+  pub reads : read_answer (record_after run (line_count wanted)) ≡ Ok tt
   pub holds : Returned given wanted (page_read (record_after run (line_count wanted)))
 
 -- the lines of a record, and a further one
@@ -138,20 +135,20 @@ PlayedBack =
 -- the line that ends a page is a further one, sent by the rules, and its header matches no selection
 pub record Ends (page : Page) : Type 0 where
   pub rules : T (sent_by_rules (closing_line page))
-  pub framing : framed (closing_line page) ≡ Packet
-  pub address : address_of (packet_of (closing_line page)) ≡ Whole page.magazine 0
+  pub framing : framed (closing_line page) ≡ Ok tt
+  pub address : address_of (packet_of (closing_line page)) ≡ Ok (Whole page.magazine 0)
   pub header : Header
-  pub numbers : header_of (packet_of (closing_line page)) ≡ Good header
+  pub numbers : header_of (packet_of (closing_line page)) ≡ Ok header
   pub no_page : (selection : Selection) → T (in_range selection) → matches selection header ≡ false
 
 abbrev pub ClosingEnds : Type 0
-ClosingEnds = (bytes : List ℕ) → read_answer bytes ≡ Read → Ends (page_read bytes)
+ClosingEnds = (bytes : List ℕ) → read_answer bytes ≡ Ok tt → Ends (page_read bytes)
 
 -- so what is sent, and the closing line, played to a new receiver, comes back: the same of that further line
 abbrev pub SentAndClosed : Type 0
 SentAndClosed =
     (bytes : List ℕ) (wanted : List Bool) (room : List ℕ) (selection : Selection) (lent : List ℕ)
-    → read_answer bytes ≡ Read → ForEachRow wanted → T (in_range selection) → selection.magazine ≡ (page_read bytes).magazine
+    → read_answer bytes ≡ Ok tt → ForEachRow wanted → T (in_range selection) → selection.magazine ≡ (page_read bytes).magazine
     → T (matches selection (page_read bytes).header) → record_length ≤ length lent → bytes_needed wanted ≤ length room
     → Feeds bytes wanted selection (closing_line (page_read bytes)) lent
     × ComesBack (page_read bytes) wanted (fed_back bytes wanted selection (closing_line (page_read bytes)) lent)

@@ -6,10 +6,10 @@ ghost use Rattle.std.specs.Prelude.{◌≡◌, [], ◌++◌, ◌≤◌, length};
 ghost use Rattle.packet.specs.Lines.{line_length};
 ghost use Rattle.send.specs.Written.{complaint, output, room};
 
-use choosing::{CHOICES, ChoiceAnswer};
+use choosing::CHOICES;
 use packet::LINE_LENGTH;
 use page::RECORD_LENGTH;
-use sending::{LONGEST, Sent};
+use sending::LONGEST;
 use std::env::{Env, FillError};
 
 // One byte more than a record has, by which a longer one is known.
@@ -30,12 +30,10 @@ fn print(
     requires { (lines.now ++ closing.now ≡ output «record».now wanted) × (length lines.now ≤ length room) × (length closing.now ≡ line_length) }
     ensures { result ≡ length (output «record».now wanted) }
 {
-    let size = lines.len() + closing.len();
-    if !console::say(rt, lines) {
-        return size;
+    if console::say(rt, lines).is_ok() {
+        let _ = console::say(rt, closing);
     }
-    console::say(rt, closing);
-    size
+    lines.len() + closing.len()
 }
 
 // Says a refusal: nothing is written then. The record and the rows are there for the promise alone.
@@ -53,17 +51,11 @@ fn send(rt: &(impl Print + Eprint), record: &[u8], wanted: [bool; CHOICES]) -> u
 {
     let mut room = [0u8; LONGEST];
     match sending::send_page(record, wanted, &mut room) {
-        Sent::Lines(count) => {
-            let read = page::read_record(record);
-            let page = read.page;
-            let closing = sending::closing_line(page);
+        Ok(count) => {
+            let closing = sending::closing_line(page::read_record(record).unwrap());
             print(rt, &room[..count * LINE_LENGTH], &closing, record, wanted)
         }
-        Sent::WrongLength => refuse(rt, b"refused 20\n", record, wanted),
-        Sent::WrongRowCode => refuse(rt, b"refused 21\n", record, wanted),
-        Sent::BadDigit => refuse(rt, b"refused 22\n", record, wanted),
-        Sent::UnlawfulCells => refuse(rt, b"refused 23\n", record, wanted),
-        Sent::ShortRoom => refuse(rt, b"refused 30\n", record, wanted),
+        Err(error) => refuse(rt, &texts::refused_text(error.number()), record, wanted),
     }
 }
 
@@ -76,12 +68,9 @@ fn send_input(rt: &(impl Input + Print + Eprint), wanted: [bool; CHOICES]) {
 
 // Sends the rows that an argument names.
 fn send_chosen(rt: &(impl Input + Print + Eprint), argument: &[u8]) {
-    let chosen = choosing::rows_asked(argument);
-    let answer = chosen.answer;
-    let wanted = chosen.wanted;
-    match answer {
-        ChoiceAnswer::Rows => send_input(rt, wanted),
-        ChoiceAnswer::NoRows => console::complain(
+    match choosing::rows_asked(argument) {
+        Some(wanted) => send_input(rt, wanted),
+        None => console::complain(
             rt,
             b"not rows: give some of 1 to 24, as 1-5,20, or nothing for all\n",
         ),

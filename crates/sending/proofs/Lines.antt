@@ -9,10 +9,10 @@ use lib.ListN.{length, get_or, length-map}
 use Rattle.laws.proofs.Lists.{get_d_map, length_part}
 use Rattle.grid.specs.Grid.{cell_count, columns, last_row}
 use Rattle.packet.specs.Lines.{line_length}
+use Rattle.packet.specs.Writing.{header_packet, row_packet}
+use Rattle.packet.proofs.Packets.{header-packet-length, line_length_law, row-packet-length}
 use Rattle.page.specs.declared.Page.{Page}
-use Rattle.sending.specs.Private.{header_line_of, row_line_of}
-use Rattle.sending.specs.Sending.{chosen_rows, header_line, line_count, lines_of, row_characters, row_line}
-use Rattle.sending.proofs.Lengths as lengths
+use Rattle.sending.specs.Sending.{chosen_rows, header_line, line_count, lines_of, row_characters, row_line, with_c4}
 use Rattle.sending.proofs.Rows.{chosen-high, chosen-low}
 
 pub lines_count : (page : Page) (wanted : List Bool) → length (lines_of page wanted) ≡ line_count wanted
@@ -34,15 +34,19 @@ module _ (page : Page) (wanted : List Bool) (choice : length wanted ≡ last_row
 
 module _ (page : Page) (sized : length page.cells.characters ≡ cell_count) where
   pub row_characters_law : (row : ℕ) → row ≤ last_row → length (row_characters page.cells.characters row) ≡ columns
-  row_characters_law row h = length_part page.cells.characters (row * columns) columns (omega arith)
+  row_characters_law row h = length_part page.cells.characters (row * columns) columns (omega (arith, sized))
 
   pub header-line-length : length (header_line page) ≡ line_length
-  unfolding header_line header_line_of
-  header-line-length = lengths.header-line-length page.magazine page.cells.characters sized page.header
+  unfolding header_line
+  header-line-length =
+      let text = row_characters page.cells.characters 0 in
+      line_length_law (header_packet page.magazine (with_c4 page.header) text) (header-packet-length page.magazine (with_c4 page.header) text (row_characters_law 0 (omega arith)))
 
   pub row-line-length : (row : ℕ) → row ≤ last_row → length (row_line page row) ≡ line_length
-  unfolding row_line row_line_of
-  row-line-length row h = lengths.row-line-length page.magazine page.cells.characters sized row h
+  unfolding row_line
+  row-line-length row h =
+      let text = row_characters page.cells.characters row in
+      line_length_law (row_packet page.magazine row text) (row-packet-length page.magazine row text (row_characters_law row h))
 
   pub lines_length : (wanted : List Bool) → length wanted ≡ last_row → (k : ℕ) → k < length (lines_of page wanted)
       → length (get_or (lines_of page wanted) k []) ≡ line_length

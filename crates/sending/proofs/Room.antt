@@ -9,18 +9,17 @@ use borrow.Author.Tests.{le-leb, leb-true}
 use lib.Dec.{leb}
 use lib.ListN.{length, get_or, take, drop, length-append}
 use lib.Seq.{drop_at, drop-drop, take_at}
+use Rattle.std.specs.Prelude.{Result, Ok, Err, ⊤}
 use Rattle.laws.proofs.Inverse.{never}
 use Rattle.grid.specs.Grid.{last_row}
 use Rattle.packet.specs.Lines.{line_length}
 use Rattle.page.specs.Reading.{page_read, read_answer}
-use Rattle.page.specs.declared.ReadAnswer.{ReadAnswer}
-use Rattle.page.specs.declared.ReadAnswer.TheVariants as read
-use Rattle.page.specs.declared.ReadAnswer.TheVariants.{Read}
+use Rattle.page.specs.declared.ReadError.{ReadError}
 use Rattle.sending.specs.Sending.{bytes_needed, end_to_end, line_count, lines_of, room_after, send_answer, sent_after, sent_into}
-use Rattle.sending.specs.declared.Sent.{Sent}
-use Rattle.sending.specs.declared.Sent.TheVariants.{Lines, WrongLength, WrongRowCode, BadDigit, UnlawfulCells, ShortRoom}
+use Rattle.sending.specs.declared.SendError.{SendError}
+use Rattle.sending.specs.declared.SendError.TheVariants.{ShortRoom}
 use Rattle.sending.proofs.Lines.{lines_count, lines_length}
-use Rattle.sending.proofs.Parts.{read_whole}
+use Rattle.sending.proofs.Whole.{read_whole}
 
 -- ---- lines end to end
 
@@ -52,16 +51,16 @@ line_at_law (line ∷ lines) each (suc k) h =
 
 -- ---- the room
 
-module _ (bytes : List ℕ) (wanted : List Bool) (room : List ℕ) (taken : read_answer bytes ≡ Read) (long : bytes_needed wanted ≤ length room) where
-  pub sends : send_answer bytes wanted room ≡ Lines (line_count wanted)
+module _ (bytes : List ℕ) (wanted : List Bool) (room : List ℕ) (taken : read_answer bytes ≡ Ok tt) (long : bytes_needed wanted ≤ length room) where
+  pub sends : send_answer bytes wanted room ≡ Ok (line_count wanted)
   unfolding send_answer sent_after
   sends =
-      ap (λ (answer : ReadAnswer). sent_after answer wanted room) taken
-      ∙ ap (λ (b : Bool). cond b (Lines (line_count wanted)) ShortRoom) (le-leb (bytes_needed wanted) (length room) long)
+      ap (λ (answer : Result ⊤ ReadError). sent_after answer wanted room) taken
+      ∙ ap (λ (b : Bool). cond {A = Result ℕ SendError} b (Ok (line_count wanted)) (Err ShortRoom)) (le-leb (bytes_needed wanted) (length room) long)
 
   pub room_after_here : sent_into bytes wanted room ≡ end_to_end (lines_of (page_read bytes) wanted) ++ drop (bytes_needed wanted) room
   unfolding sent_into room_after
-  room_after_here = ap (λ (answer : Sent). room_after answer (page_read bytes) wanted room) sends
+  room_after_here = ap (λ (answer : Result ℕ SendError). room_after answer (page_read bytes) wanted room) sends
 
   module _ (choice : length wanted ≡ last_row) where
     pub sent-lines : OfLineLength (lines_of (page_read bytes) wanted)
@@ -81,42 +80,31 @@ module _ (bytes : List ℕ) (wanted : List Bool) (room : List ℕ) (taken : read
 -- ---- an answer that counts lines
 
 -- was given for a record that the reader takes and a room that is long enough
-pub record Counted (answer : ReadAnswer) (wanted : List Bool) (room : List ℕ) (count : ℕ) : Type 0 where
-  pub taken : answer ≡ Read
+pub record Counted (answer : Result ⊤ ReadError) (wanted : List Bool) (room : List ℕ) (count : ℕ) : Type 0 where
+  pub taken : answer ≡ Ok tt
   pub lines : count ≡ line_count wanted
   pub enough : bytes_needed wanted ≤ length room
 
 -- whether an answer counts lines, and how many
-abbrev is_count : Sent → ℕ
-is_count (Lines count) = 1
-is_count WrongLength = 0
-is_count WrongRowCode = 0
-is_count BadDigit = 0
-is_count UnlawfulCells = 0
-is_count ShortRoom = 0
+abbrev is_count : Result ℕ SendError → ℕ
+is_count (Ok count) = 1
+is_count (Err _) = 0
 
-abbrev count_in : Sent → ℕ
-count_in (Lines count) = count
-count_in WrongLength = 0
-count_in WrongRowCode = 0
-count_in BadDigit = 0
-count_in UnlawfulCells = 0
-count_in ShortRoom = 0
+abbrev count_in : Result ℕ SendError → ℕ
+count_in (Ok count) = count
+count_in (Err _) = 0
 
 counted_if : (fits : Bool) (wanted : List Bool) (room : List ℕ) (count : ℕ) → leb (bytes_needed wanted) (length room) ≡ fits
-    → cond fits (Lines (line_count wanted)) ShortRoom ≡ Lines count → Counted Read wanted room count
+    → ◌≡◌ {A = Result ℕ SendError} (cond fits (Ok (line_count wanted)) (Err ShortRoom)) (Ok count) → Counted (Ok tt) wanted room count
 counted_if true wanted room count e same = record { taken = refl; lines = sym (ap count_in same); enough = leb-true (bytes_needed wanted) (length room) e }
 counted_if false wanted room count e same = absurd (never (ap is_count same))
 
-counted_by : (answer : ReadAnswer) (wanted : List Bool) (room : List ℕ) (count : ℕ) → sent_after answer wanted room ≡ Lines count → Counted answer wanted room count
+counted_by : (answer : Result ⊤ ReadError) (wanted : List Bool) (room : List ℕ) (count : ℕ) → sent_after answer wanted room ≡ Ok count → Counted answer wanted room count
 unfolding sent_after
-counted_by read.Read wanted room count same = counted_if (leb (bytes_needed wanted) (length room)) wanted room count refl same
-counted_by read.WrongLength wanted room count same = absurd (never (ap is_count same))
-counted_by read.WrongRowCode wanted room count same = absurd (never (ap is_count same))
-counted_by read.BadDigit wanted room count same = absurd (never (ap is_count same))
-counted_by read.UnlawfulCells wanted room count same = absurd (never (ap is_count same))
+counted_by (Ok _) wanted room count same = counted_if (leb (bytes_needed wanted) (length room)) wanted room count refl same
+counted_by (Err error) wanted room count same = absurd (never (ap is_count same))
 
-pub counted : (bytes : List ℕ) (wanted : List Bool) (room : List ℕ) (count : ℕ) → send_answer bytes wanted room ≡ Lines count
+pub counted : (bytes : List ℕ) (wanted : List Bool) (room : List ℕ) (count : ℕ) → send_answer bytes wanted room ≡ Ok count
     → Counted (read_answer bytes) wanted room count
 unfolding send_answer
 counted bytes wanted room count same = counted_by (read_answer bytes) wanted room count same

@@ -1,17 +1,16 @@
 -- Document 02, request 2, with request 5: from a page record and a yes or no for each row 1 to 24, the data-lines of one transmission, header first with C4 set, rows
 -- rising. Room past the lines stays. Refusals: 20 to 23 in their order, then 30, lent room shorter than 45 bytes for each line.
-use Rattle.std.specs.Prelude.{Bool, true, false, cond, List, [], ◌∷◌, ◌++◌, map, ℕ, suc, ◌+◌, ◌*◌, ◌%◌, leb, length, take, drop}
+use Rattle.std.specs.Prelude.{Bool, true, false, cond, List, [], ◌∷◌, ◌++◌, map, ℕ, suc, ◌+◌, ◌*◌, ◌%◌, leb, length, take, drop, Result, Ok, Err, ⊤}
 use Rattle.laws.specs.Paper.{Paper, accepted, refused_by}
 use Rattle.grid.specs.Grid.{columns}
 use Rattle.packet.specs.Lines.{line_length}
 use Rattle.packet.specs.Writing.{c4_weight, data_line, header_packet, row_packet}
 use Rattle.packet.specs.declared.Header.{Header}
-use Rattle.page.specs.Reading.{page_read, read_answer}
+use Rattle.page.specs.Reading.{page_read, read_answer, read_number}
 use Rattle.page.specs.declared.Page.{Page}
-use Rattle.page.specs.declared.ReadAnswer.{ReadAnswer}
-use Rattle.page.specs.declared.ReadAnswer.TheVariants as read
-use Rattle.sending.specs.declared.Sent.{Sent}
-use Rattle.sending.specs.declared.Sent.TheVariants.{Lines, WrongLength, WrongRowCode, BadDigit, UnlawfulCells, ShortRoom}
+use Rattle.page.specs.declared.ReadError.{ReadError}
+use Rattle.sending.specs.declared.SendError.{SendError}
+use Rattle.sending.specs.declared.SendError.TheVariants.{Record, ShortRoom}
 
 -- ---- the rows
 
@@ -76,38 +75,33 @@ unfolding line_count
 bytes_needed wanted = line_count wanted * line_length
 
 -- after what the reader says of the record
-unfoldable pub sent_after : ReadAnswer → List Bool → List ℕ → Sent
+unfoldable pub sent_after : Result ⊤ ReadError → List Bool → List ℕ → Result ℕ SendError
 unfolding bytes_needed line_count
-sent_after read.Read wanted room = cond (leb (bytes_needed wanted) (length room)) (Lines (line_count wanted)) ShortRoom
-sent_after read.WrongLength wanted room = WrongLength
-sent_after read.WrongRowCode wanted room = WrongRowCode
-sent_after read.BadDigit wanted room = BadDigit
-sent_after read.UnlawfulCells wanted room = UnlawfulCells
+sent_after (Ok _) wanted room = cond (leb (bytes_needed wanted) (length room)) (Ok (line_count wanted)) (Err ShortRoom)
+sent_after (Err error) wanted room = Err (Record error)
 
-unfoldable pub send_answer : List ℕ → List Bool → List ℕ → Sent
+unfoldable pub send_answer : List ℕ → List Bool → List ℕ → Result ℕ SendError
 unfolding sent_after
 send_answer bytes wanted room = sent_after (read_answer bytes) wanted room
 
-unfoldable pub sent_paper : Sent → Paper
-unfolding accepted refused_by
-sent_paper (Lines count) = accepted (count ∷ [])
-sent_paper WrongLength = refused_by 20 []
-sent_paper WrongRowCode = refused_by 21 []
-sent_paper BadDigit = refused_by 22 []
-sent_paper UnlawfulCells = refused_by 23 []
-sent_paper ShortRoom = refused_by 30 []
+unfoldable pub send_number : SendError → ℕ
+unfolding read_number
+send_number (Record error) = read_number error
+send_number ShortRoom = 30
+
+unfoldable pub sent_paper : Result ℕ SendError → Paper
+unfolding accepted refused_by send_number
+sent_paper (Ok count) = accepted (count ∷ [])
+sent_paper (Err error) = refused_by (send_number error) []
 
 -- ---- the room
 
 -- the lent room after each answer
-unfoldable pub room_after : Sent → Page → List Bool → List ℕ → List ℕ
+unfoldable pub room_after : Result ℕ SendError → Page → List Bool → List ℕ → List ℕ
 unfolding end_to_end lines_of bytes_needed
-room_after (Lines count) page wanted room = end_to_end (lines_of page wanted) ++ drop (bytes_needed wanted) room
-room_after WrongLength page wanted room = room
-room_after WrongRowCode page wanted room = room
-room_after BadDigit page wanted room = room
-room_after UnlawfulCells page wanted room = room
-room_after ShortRoom page wanted room = room
+room_after (Ok count) page wanted room = end_to_end (lines_of page wanted) ++ drop (bytes_needed wanted) room
+room_after (Err (Record error)) page wanted room = room
+room_after (Err ShortRoom) page wanted room = room
 
 unfoldable pub sent_into : List ℕ → List Bool → List ℕ → List ℕ
 unfolding room_after send_answer

@@ -1,9 +1,9 @@
 -- What is said of mended bytes, each text with its line feed: of a page "3 bytes mended", and of all lines "3 bytes mended, in 2 of 5 lines".
 use Rattle.std.specs.Prelude.{cond, List, [], ◌∷◌, ◌++◌, ℕ, ◌+◌, eqb, length}
-use Rattle.laws.specs.Text.{line_feed, padded}
+use Rattle.laws.specs.Text.{line_feed}
 use Rattle.texts.specs.Decimal.{decimal, most_digits}
-use Rattle.tally.specs.declared.MendedText.{MendedText}
-use Rattle.tally.specs.declared.ShareText.{ShareText}
+use Rattle.texts.specs.Held.{held}
+use Rattle.texts.specs.declared.Text.{Text}
 
 -- a number, and what stands behind one and behind any other number
 unfoldable pub count_text : ℕ → List ℕ → List ℕ → List ℕ
@@ -51,14 +51,11 @@ share_text mended mended_lines lines =
 abbrev pub mended_size : ℕ
 mended_size = most_digits + length (bytes_mended ++ line_feed)
 
-unfoldable pub mended_held : ℕ → MendedText
-unfolding mended_text
-mended_held count = record { bytes = padded mended_size (mended_text count); used = length (mended_text count) }
+abbrev pub mended_held : ℕ → Text mended_size
+mended_held count = held mended_size (mended_text count)
 
 abbrev pub share_size : ℕ
 share_size = most_digits + length (bytes_mended ++ in_word) + (most_digits + length of_word) + (most_digits + length (lines_word ++ line_feed))
 
-unfoldable pub share_held : ℕ → ℕ → ℕ → ShareText
-unfolding share_text
-share_held mended mended_lines lines =
-    record { bytes = padded share_size (share_text mended mended_lines lines); used = length (share_text mended mended_lines lines) }
+abbrev pub share_held : ℕ → ℕ → ℕ → Text share_size
+share_held mended mended_lines lines = held share_size (share_text mended mended_lines lines)

@@ -6,10 +6,11 @@ use Prim.Native.Nat.{ℕ, zero, suc, ◌+◌, ◌/◌, ◌%◌, ◌^◌, ◌<◌
 use native.Mathlib.Omega.{arith}
 use borrow.Author.Tests.{lt-ltb, le-ltb, ltb-true, ltb-false}
 use lib.Dec.{ltb}
-use lib.ListN.{length, set, take, length-append}
-use Rattle.laws.proofs.Padded.{one-longer, padded-length, padded-more, padded-text}
+use lib.ListN.{length, length-append}
+use Rattle.texts.specs.Held.{added}
 use Rattle.texts.specs.Decimal.{digit, digits_of, decimal, most_digits, digits_held}
-use Rattle.texts.specs.declared.Digits.{Digits}
+use Rattle.texts.specs.declared.Text.{Text}
+use Rattle.texts.proofs.Held.{held_added}
 
 one_digit : (bound n : ℕ) → n < 10 → digits_of (suc bound) n ≡ digit n ∷ []
 unfolding digits_of
@@ -69,37 +70,16 @@ word_digits n h = few_digits (most_digits - 1) n (omega arith)
 
 -- ---- digits that are held
 
-module _ (text : List ℕ) {held : Digits} (is : held ≡ digits_held text) where
-  pub held-used : held.used ≡ length text
-  unfolding digits_held
-  held-used = ap (λ (d : Digits). d.used) is
+module _ (n : ℕ) {front : Text most_digits} where
+  -- the only one
+  pub one_held : n < 10 → front ≡ digits_held [] → added front (digit (n % 10) ∷ []) ≡ digits_held (decimal n)
+  one_held h is =
+      let same : n % 10 ≡ n = omega arith in
+      rw (is, held_added most_digits [] (digit (n % 10) ∷ []) (omega arith), same, decimal_one n h) refl
 
-  pub held_bytes : length text ≤ most_digits → length held.bytes ≡ most_digits
-  unfolding digits_held
-  held_bytes h = ap (λ (d : Digits). length d.bytes) is ∙ padded-length most_digits text h
-
-  -- the digits are what is there
-  pub held-text : take held.used held.bytes ≡ text
-  unfolding digits_held
-  held-text = ap (λ (d : Digits). take d.used d.bytes) is ∙ padded-text most_digits text
-
-  pub held-counted : held.used ≡ length (take held.used held.bytes)
-  held-counted = held-used ∙ sym (ap length held-text)
-
-  -- there is a place for one digit more
-  pub held-room : length text < most_digits → (held.used < most_digits) × (length held.bytes ≡ most_digits)
-  held-room h = let used = held-used in (omega arith, held_bytes (omega arith))
-
-  -- and with it
-  pub held_more : (byte : ℕ) → length text < most_digits
-      → record { bytes = set held.bytes held.used byte; used = held.used + 1 } ≡ digits_held (text ++ (byte ∷ []))
-  unfolding digits_held
-  held_more byte h = rw (is, padded-more most_digits text byte h, one-longer most_digits text byte)
-
--- what is promised of a number's digits
-pub held_decimal : (n : ℕ) → n < 2 ^ 64 → {held : Digits} → held ≡ digits_held (decimal n)
-    → (held ≡ digits_held (decimal n)) × ((length held.bytes ≡ most_digits) × (held.used ≤ most_digits))
-held_decimal n word e =
-    let few = word_digits n word in
-    let used = held-used (decimal n) e in
-    (e, (held_bytes (decimal n) e few, omega arith))
+  -- the last one, behind those in front
+  pub last_held : n < 2 ^ 64 → 10 ≤ n → front ≡ digits_held (decimal (n / 10)) → added front (digit (n % 10) ∷ []) ≡ digits_held (decimal n)
+  last_held word h is =
+      let few = word_digits n word in
+      let longer = decimal_longer n h in
+      rw (is, held_added most_digits (decimal (n / 10)) (digit (n % 10) ∷ []) (omega arith), decimal_more n h) refl

@@ -1,4 +1,4 @@
+pub mod Held
 pub mod Decimal
 pub mod Putting
-pub mod Growing
 pub mod Unique

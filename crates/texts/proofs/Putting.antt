@@ -2,14 +2,12 @@
 use mathlib.Core.Path.{◌≡◌, sym, ◌∙◌, ap, subst}
 use mathlib.Core.Bool.{Bool, cond}
 use mathlib.Core.List.{List, [], ◌++◌, append_assoc, append-nil}
-use Prim.Native.Nat.{ℕ, ◌+◌, ◌<◌, ◌≤◌}
+use Prim.Native.Nat.{ℕ, ◌+◌, ◌≤◌}
 use native.Mathlib.Nat.{add-zero}
 use native.Mathlib.Omega.{arith}
-use borrow.Author.Tests.{le-ltb, lt-ltb}
-use lib.ListN.{length, take, drop, replicate, length-append, take-append-drop}
+use borrow.Author.Tests.{le-ltb}
+use lib.ListN.{length, take, drop, length-append, take-append-drop}
 use lib.Seq.{drop_at, drop-drop, length-take-le, take_all, take_at, paste, length-paste}
-use Rattle.laws.specs.Text.{padded}
-use Rattle.laws.proofs.Lists.{drop_replicate}
 use Rattle.texts.specs.Put.{Puts, PutsWhole, laid_at}
 
 -- the same text
@@ -59,12 +57,6 @@ module _ {text room : List ℕ} {at : ℕ} {after : List ℕ} {end : ℕ} (p : P
         ends = q.ends ∙ (ap (λ (n : ℕ). n + length more) p.ends ∙ whole);
       }
 
--- into zeros
-pub put_in_zeros : (size : ℕ) {text after : List ℕ} {end : ℕ} → Puts text (replicate size 0) 0 after end → (after ≡ padded size text) × (end ≡ length text)
-put_in_zeros size {text} p =
-    let same : 0 + length text ≡ length text = omega arith in
-    (p.laid ∙ ap (λ (zeros : List ℕ). text ++ zeros) (ap (λ (n : ℕ). drop n (replicate size 0)) same ∙ drop_replicate (length text) size 0), p.ends ∙ same)
-
 -- ---- a text that is put whole or not at all
 
 module _ {text room : List ℕ} {at : ℕ} where
@@ -74,20 +66,4 @@ module _ {text room : List ℕ} {at : ℕ} where
       record {
         laid = p.laid ∙ ap (λ (b : Bool). cond b room (laid_at room at text)) fits;
         ends = p.ends ∙ ap (λ (b : Bool). cond b at (at + length text)) fits;
-      }
-
-  pub put-yes : at + length text ≤ length room → {after : List ℕ} {end : ℕ} → Puts text room at after end → PutsWhole text room at after end
-  put-yes h p =
-      let fits = le-ltb (length room) (at + length text) h in
-      record {
-        laid = p.laid ∙ sym (ap (λ (b : Bool). cond b room (laid_at room at text)) fits);
-        ends = p.ends ∙ sym (ap (λ (b : Bool). cond b at (at + length text)) fits);
-      }
-
-  pub put-not : length room < at + length text → PutsWhole text room at room at
-  put-not h =
-      let over = lt-ltb (length room) (at + length text) h in
-      record {
-        laid = sym (ap (λ (b : Bool). cond b room (laid_at room at text)) over);
-        ends = sym (ap (λ (b : Bool). cond b at (at + length text)) over);
       }

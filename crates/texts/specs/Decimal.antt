@@ -1,7 +1,7 @@
 -- A number in decimal, as the list of its bytes, and how they are held; and one digit of 0 to 15.
-use Rattle.std.specs.Prelude.{cond, List, [], ◌∷◌, ◌++◌, ℕ, zero, suc, ◌+◌, ◌/◌, ◌%◌, ltb, length}
-use Rattle.laws.specs.Text.{padded}
-use Rattle.texts.specs.declared.Digits.{Digits}
+use Rattle.std.specs.Prelude.{cond, List, [], ◌∷◌, ◌++◌, ℕ, zero, suc, ◌+◌, ◌/◌, ◌%◌, ltb}
+use Rattle.texts.specs.Held.{held}
+use Rattle.texts.specs.declared.Text.{Text}
 
 abbrev pub digit : ℕ → ℕ
 digit n = 0x30 + n
@@ -22,8 +22,8 @@ abbrev pub most_digits : ℕ
 most_digits = 20
 
 -- digits in an array of twenty bytes, and how many there are
-unfoldable pub digits_held : List ℕ → Digits
-digits_held digits = record { bytes = padded most_digits digits; used = length digits }
+abbrev pub digits_held : List ℕ → Text most_digits
+digits_held digits = held most_digits digits
 
 -- ---- a digit of 0 to 15
 

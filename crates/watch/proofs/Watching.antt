@@ -10,13 +10,14 @@ use native.Mathlib.Omega.{arith}
 use borrow.Author.Tests.{eqb-true, le-ltb}
 use lib.Dec.{T, eqb}
 use lib.ListN.{length, get_or}
+use Rattle.std.specs.Prelude.{None, Result, Ok, Err, ⊤}
 use Rattle.laws.specs.Digits.{most_counted}
 use Rattle.laws.specs.Paper.{Paper, accepted, refused_by}
 use Rattle.laws.proofs.Bools.{both_true}
 use Rattle.laws.proofs.Keeps.{either}
 use Rattle.packet.specs.Lines.{framed, packet_length, packet_of}
-use Rattle.packet.specs.declared.Framed.{Framed}
-use Rattle.packet.specs.declared.Framed.TheVariants as framed
+use Rattle.packet.specs.declared.LineError.{LineError}
+use Rattle.packet.specs.declared.LineError.TheVariants.{WrongLength, WrongFraming}
 use Rattle.page.specs.Records.{record_length}
 use Rattle.receiver.specs.Entries.{entered, lawful, line_by, line_entered, packet_gives, packet_taken, refusal, refused_line}
 use Rattle.receiver.specs.Mended.{brought_by, none_mended, summed}
@@ -26,7 +27,6 @@ use Rattle.receiver.proofs.Entering.{never-18}
 use Rattle.receiver.specs.Recordings.{goes_on, is_accepted}
 use Rattle.watch.specs.Watched.{added, added_if, closing_of, gap_after, is_number, line_watched, lines_passed, own_after, own_closed, recording_watched, without, word_of}
 use Rattle.watch.specs.declared.Watch.{Watch}
-use Rattle.watch.specs.declared.Word.TheVariants as word
 
 -- ---- lines that go on
 
@@ -52,7 +52,7 @@ and_true false = refl
 
 -- a line that goes on leaves the watch one line more, with its mended bytes, and has no word
 pub line_on : (watch : Watch) (is_open : Bool) (answer : Paper) → goes_on answer ≡ true
-    → line_watched watch is_open answer ≡ record { watch = lines_passed watch 1 (brought_by answer); word = word.None; own = 0 }
+    → line_watched watch is_open answer ≡ record { watch = lines_passed watch 1 (brought_by answer); word = None; own = 0 }
 unfolding line_watched lines_passed gap_after is_accepted is_number added_if word_of own_after own_closed
 line_on watch is_open answer e =
     let o = on answer e in
@@ -175,7 +175,7 @@ covers_more more all (some answer) c = at_least_with more c
 pub recording_more : (watch : Watch) (is_open : Bool) (stopped : Option Paper) (used : ℕ) (first others : Mended) → 1 ≤ used → Covers others stopped
     → recording_watched (lines_passed watch 1 first) used others is_open stopped ≡ recording_watched watch (1 + used) (summed first others) is_open stopped
 unfolding recording_watched
-recording_more watch is_open none used first others h c = ap (λ (w : Watch). record { watch = w; word = word.None; own = 0 }) (passed_more watch 1 used first others)
+recording_more watch is_open none used first others h c = ap (λ (w : Watch). record { watch = w; word = None; own = 0 }) (passed_more watch 1 used first others)
 recording_more watch is_open (some answer) used first others h c =
     let before : 1 + (used - 1) ≡ 1 + used - 1 = omega arith in
     ap (λ (w : Watch). line_watched w is_open answer)
@@ -204,11 +204,11 @@ module _ (receiver : Receiver) (line lent : List ℕ) where
   taken-counted true packet = inl refl
   taken-counted false packet = inr (inl refl)
 
-  line-counted : (what : Framed) → Counted (line_by what receiver line lent).answer.number
+  line-counted : (what : Result ⊤ LineError) → Counted (line_by what receiver line lent).answer.number
   unfolding line_by packet_taken refusal refused_line refused_by
-  line-counted framed.Packet = taken-counted (eqb (length (packet_of line)) packet_length) (packet_of line)
-  line-counted framed.WrongLength = inr (inl refl)
-  line-counted framed.WrongFraming = inr (inr refl)
+  line-counted (Ok fine) = taken-counted (eqb (length (packet_of line)) packet_length) (packet_of line)
+  line-counted (Err WrongLength) = inr (inl refl)
+  line-counted (Err WrongFraming) = inr (inr refl)
 
   -- 12 and 18 never arise from a receiver of our own and a record that is long enough
   pub counted : T (lawful receiver) → record_length ≤ length lent → Counted (line_entered receiver line lent).answer.number

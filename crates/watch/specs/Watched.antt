@@ -1,6 +1,8 @@
 -- What whoever feeds lines keeps beside the receiver, and the word of a page that closes. A refused line may have been the header that ends the open page, and the
 -- receiver can't know it: so a page that was open at a refused line is not called clean, even where the receiver closes it so.
 use Rattle.std.specs.Prelude.{Bool, false, cond, not, ◌&&◌, ◌||◌, ℕ, ◌+◌, ◌-◌, min, eqb, get_or}
+use Rattle.std.specs.Prelude as std
+use Rattle.std.specs.Prelude.{Some, None}
 use Rattle.std.proofs.Math.Option.{Option, none, some}
 use Rattle.laws.specs.Digits.{most_counted}
 use Rattle.laws.specs.Paper.{Paper}
@@ -21,11 +23,11 @@ unfoldable pub closing_of : Paper → ℕ
 closing_of answer = get_or answer.values 2 0
 
 -- the word by that number: doubt is doubt, and clean is clean only where no line was refused while the page was open
-unfoldable pub word_of : Bool → ℕ → Word
+unfoldable pub word_of : Bool → ℕ → std.Option Word
 unfolding closing_number
 word_of gap number =
-    cond (eqb number (closing_number closing.Clean)) (cond gap word.Missing word.Clean)
-    (cond (eqb number (closing_number closing.Doubt)) word.Doubt word.None)
+    cond (eqb number (closing_number (Some closing.Clean))) (cond gap (Some word.Missing) (Some word.Clean))
+    (cond (eqb number (closing_number (Some closing.Doubt))) (Some word.Doubt) None)
 
 -- a refused line is a gap in the page that is open; closing ends it
 unfoldable pub gap_after : Bool → Bool → Paper → Bool
@@ -104,6 +106,6 @@ without all one = record { bytes = all.bytes - one.bytes; lines = all.lines - on
 -- so many lines of a recording: all passed where it ended, and where it stopped all but the last, whose answer it stopped at
 unfoldable pub recording_watched : Watch → ℕ → Mended → Bool → Option Paper → Watched
 unfolding lines_passed line_watched without brought_by
-recording_watched watch used mended is_open none = record { watch = lines_passed watch used mended; word = word.None; own = 0 }
+recording_watched watch used mended is_open none = record { watch = lines_passed watch used mended; word = None; own = 0 }
 recording_watched watch used mended is_open (some answer) =
     line_watched (lines_passed watch (used - 1) (without mended (brought_by answer))) is_open answer

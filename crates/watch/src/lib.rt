@@ -2,22 +2,16 @@
 // in them. A page with such a gap is not called clean, even where the receiver closes it so.
 #![tactic(auto)]
 
-ghost use Rattle.std.specs.Prelude.{cond, ◌&&◌, ◌||◌, ◌≡◌, ◌-◌, eqb};
-ghost use Rattle.receiver.specs.Entries.{answer_paper, closing_number};
+ghost use Rattle.std.specs.Prelude.{cond, not, ◌≡◌, ◌-◌};
+ghost use Rattle.receiver.specs.Entries.{answer_paper, closing_number, refusal_number};
 ghost use Rattle.receiver.specs.Recordings.{played_paper};
-ghost use Rattle.watch.specs.Private.{Hears};
-ghost use Rattle.watch.specs.Watched.{added, added_if, line_watched, lines_passed, new_watch, recording_watched, without, word_of};
+ghost use Rattle.watch.specs.Watched.{added, added_if, closing_of, gap_after, is_number, line_watched, lines_passed, new_watch, recording_watched, without, word_of};
 
-use receiver::{Answer, Closing, Mended, Played, Recorded, Stepped};
+use receiver::{Closing, Mended, Recorded, Refusal, Stepped, Taken};
 
-// The largest count.
-const MOST: u64 = 18446744073709551615;
-
-// What is to be said of a line. A page may be read out where it is `Clean`.
-#[derive(Drop)]
+// What is to be said of a page that closed. It may be read out where it is `Clean`.
+#[derive(Clone, Copy, PartialEq, Eq)]
 pub enum Word {
-    // No page closed.
-    None,
     Clean,
     Doubt,
     // The receiver closed it clean, but a line was refused while it was open.
@@ -38,23 +32,17 @@ pub struct Watch {
     pub own: u64,
 }
 
-// The watch after a line, what is to be said of it, and of a page that closed how many bytes were mended in its own lines.
-#[derive(Drop)]
+// The watch after a line, what is to be said of a page that closed with it, and how many bytes were mended in that page's own lines.
+#[derive(Clone, Copy)]
 pub struct Watched {
     pub watch: Watch,
-    pub word: Word,
+    pub word: Option<Word>,
     pub own: u64,
-}
-
-// An answer's number, and the number of its closing word.
-#[derive(Drop)]
-struct Heard {
-    number: u8,
-    closing: u8,
 }
 
 impl Watch {
     // Before the first line.
+    #[tactic(auto, unfolding(crate::specs::Watched::new_watch))]
     pub fn new() -> Watch
         ensures { result ≡ new_watch }
     {
@@ -71,134 +59,108 @@ impl Watch {
     }
 }
 
-fn closing_number(closing: Closing) -> u8
-    ensures { result ≡ closing_number closing }
-{
-    match closing {
-        Closing::None => 0,
-        Closing::Clean => 1,
-        Closing::Doubt => 2,
-    }
-}
-
-fn heard_in(answer: Answer) -> Heard
-    ensures { Hears (answer_paper answer) result }
+// How a page closed with a line; none did with one that was refused.
+#[tactic(auto, unfolding(crate::specs::Watched::closing_of, receiver::specs::Entries::answer_paper))]
+fn closing_in(answer: Result<Taken, Refusal>) -> Option<Closing>
+    ensures { closing_of (answer_paper answer) ≡ closing_number result }
 {
     match answer {
-        Answer::Taken {
-            kind: _,
-            count: _,
-            closing,
-            mended: _,
-        } => Heard {
-            number: 0,
-            closing: closing_number(closing),
-        },
-        Answer::Unlawful => Heard {
-            number: 18,
-            closing: 0,
-        },
-        Answer::ShortRecord => Heard {
-            number: 12,
-            closing: 0,
-        },
-        Answer::WrongLength => Heard {
-            number: 10,
-            closing: 0,
-        },
-        Answer::WrongFraming => Heard {
-            number: 11,
-            closing: 0,
-        },
+        Ok(taken) => taken.closing,
+        Err(_) => None,
     }
 }
 
-fn word_of(gap: bool, closing: u8) -> Word
-    ensures { result ≡ word_of gap closing }
+// Whether a line was refused for this reason.
+fn is_refused(answer: Result<Taken, Refusal>, reason: Refusal) -> bool
+    ensures { result ≡ is_number (refusal_number reason) (answer_paper answer).number }
 {
-    if closing == 1 {
-        if gap {
-            return Word::Missing;
-        }
-        return Word::Clean;
+    match answer {
+        Ok(_) => false,
+        Err(refusal) => refusal == reason,
     }
-    if closing == 2 {
-        return Word::Doubt;
-    }
-    Word::None
 }
 
-fn gap_after(gap: bool, is_open: bool, number: u8, closing: u8) -> bool
-    ensures { result ≡ cond (eqb number 0) (gap && eqb closing 0) (gap || is_open) }
+#[tactic(auto, unfolding(crate::specs::Watched::word_of))]
+fn word_of(gap: bool, closing: Option<Closing>) -> Option<Word>
+    ensures { result ≡ word_of gap (closing_number closing) }
 {
-    if number == 0 {
-        return gap & (closing == 0);
+    match closing {
+        None => None,
+        Some(Closing::Doubt) => Some(Word::Doubt),
+        Some(Closing::Clean) => Some(if gap { Word::Missing } else { Word::Clean }),
     }
-    gap | is_open
 }
 
+#[tactic(auto, using(crate::proofs::Closed::unclosed), unfolding(crate::specs::Watched::gap_after, receiver::specs::Entries::answer_paper))]
+fn gap_after(gap: bool, is_open: bool, answer: Result<Taken, Refusal>) -> bool
+    ensures { result ≡ gap_after gap is_open (answer_paper answer) }
+{
+    match answer {
+        Ok(taken) => gap & taken.closing.is_none(),
+        Err(_) => gap | is_open,
+    }
+}
+
+// A count stays at the largest number that it can hold.
+#[tactic(auto, unfolding(crate::specs::Watched::added))]
 fn added_to(count: u64, more: u64) -> u64
     ensures { result ≡ added count more }
 {
-    let room = MOST - count;
-    if more < room { count + more } else { MOST }
+    count.saturating_add(more)
 }
 
+#[tactic(auto, unfolding(crate::specs::Watched::added_if))]
 fn added_if(yes: bool, count: u64) -> u64
     ensures { result ≡ added_if yes count }
 {
     if yes { added_to(count, 1) } else { count }
 }
 
+#[tactic(auto, unfolding(crate::specs::Watched::lines_passed))]
 fn lines_passed(watch: Watch, used: usize, mended: Mended) -> Watch
     ensures { result ≡ lines_passed watch used mended }
 {
-    let mut after = watch;
-    after.lines = added_to(watch.lines, used as u64);
-    after.mended = added_to(watch.mended, mended.bytes as u64);
-    after.mended_lines = added_to(watch.mended_lines, mended.lines as u64);
-    after.own = added_to(watch.own, mended.own as u64);
-    after
-}
-
-fn own_after(own: u64, closing: u8, more: u64) -> u64
-    ensures { result ≡ cond (eqb closing 0) (added own more) more }
-{
-    if closing == 0 {
-        return added_to(own, more);
+    Watch {
+        lines: added_to(watch.lines, used as u64),
+        mended: added_to(watch.mended, mended.bytes as u64),
+        mended_lines: added_to(watch.mended_lines, mended.lines as u64),
+        own: added_to(watch.own, mended.own as u64),
+        ..watch
     }
-    more
 }
 
-fn own_closed(own: u64, closing: u8) -> u64
-    ensures { result ≡ cond (eqb closing 0) 0 (added own 0) }
+fn own_after(own: u64, closed: bool, more: u64) -> u64
+    ensures { result ≡ cond (not closed) (added own more) more }
 {
-    if closing == 0 { 0 } else { own }
+    if closed { more } else { added_to(own, more) }
 }
 
-fn after_line(watch: Watch, is_open: bool, answer: Answer) -> Watched
+#[tactic(auto, unfolding(crate::specs::Watched::added))]
+fn own_closed(own: u64, closed: bool) -> u64
+    ensures { result ≡ cond (not closed) 0 (added own 0) }
+{
+    if closed { own } else { 0 }
+}
+
+fn after_line(watch: Watch, is_open: bool, answer: Result<Taken, Refusal>) -> Watched
     ensures { result ≡ line_watched watch is_open (answer_paper answer) }
 {
-    let heard = heard_in(answer);
-    let number = heard.number;
-    let closing = heard.closing;
+    let closing = closing_in(answer);
+    let closed = closing.is_some();
     let more = receiver::mended_of(answer);
-    let word = word_of(watch.gap, closing);
-    let own = own_closed(watch.own, closing);
-    let after = Watch {
-        gap: gap_after(watch.gap, is_open, number, closing),
-        lines: added_to(watch.lines, 1),
-        by10: added_if(number == 10, watch.by10),
-        by11: added_if(number == 11, watch.by11),
-        closed: added_if(closing != 0, watch.closed),
-        mended: added_to(watch.mended, more.bytes as u64),
-        mended_lines: added_to(watch.mended_lines, more.lines as u64),
-        own: own_after(watch.own, closing, more.own as u64),
-    };
     Watched {
-        watch: after,
-        word,
-        own,
+        watch: Watch {
+            gap: gap_after(watch.gap, is_open, answer),
+            lines: added_to(watch.lines, 1),
+            by10: added_if(is_refused(answer, Refusal::WrongLength), watch.by10),
+            by11: added_if(is_refused(answer, Refusal::WrongFraming), watch.by11),
+            closed: added_if(closed, watch.closed),
+            mended: added_to(watch.mended, more.bytes as u64),
+            mended_lines: added_to(watch.mended_lines, more.lines as u64),
+            own: own_after(watch.own, closed, more.own as u64),
+        },
+        word: word_of(watch.gap, closing),
+        own: own_closed(watch.own, closed),
     }
 }
 
@@ -206,29 +168,18 @@ fn after_line(watch: Watch, is_open: bool, answer: Answer) -> Watched
 pub fn watch_line(watch: Watch, stepped: Stepped) -> Watched
     ensures { result ≡ line_watched watch stepped.receiver.«open» (answer_paper stepped.answer) }
 {
-    let receiver = stepped.receiver;
-    let answer = stepped.answer;
-    after_line(watch, receiver.open, answer)
-}
-
-// What is left of a count.
-fn less(all: usize, one: usize) -> usize
-    ensures { result ≡ all - one }
-{
-    if all < one {
-        return 0;
-    }
-    all - one
+    after_line(watch, stepped.receiver.open, stepped.answer)
 }
 
 // The bytes mended in all lines but one.
+#[tactic(auto, unfolding(crate::specs::Watched::without))]
 fn mended_before(all: Mended, one: Mended) -> Mended
     ensures { result ≡ without all one }
 {
     Mended {
-        bytes: less(all.bytes, one.bytes),
-        lines: less(all.lines, one.lines),
-        own: less(all.own, one.own),
+        bytes: all.bytes.saturating_sub(one.bytes),
+        lines: all.lines.saturating_sub(one.lines),
+        own: all.own.saturating_sub(one.own),
     }
 }
 
@@ -236,23 +187,16 @@ fn mended_before(all: Mended, one: Mended) -> Mended
 pub fn watch_recording(watch: Watch, recorded: Recorded) -> Watched
     ensures { result ≡ recording_watched watch recorded.used recorded.mended recorded.receiver.«open» (played_paper recorded.answer) }
 {
-    let receiver = recorded.receiver;
-    let used = recorded.used;
-    let mended = recorded.mended;
-    let answer = recorded.answer;
-    match answer {
-        Played::End => {
-            let all = lines_passed(watch, used, mended);
-            Watched {
-                watch: all,
-                word: Word::None,
-                own: 0,
-            }
-        }
-        Played::Stopped(last) => {
-            let before = mended_before(mended, receiver::mended_of(last));
-            let others = lines_passed(watch, less(used, 1), before);
-            after_line(others, receiver.open, last)
+    match recorded.answer {
+        None => Watched {
+            watch: lines_passed(watch, recorded.used, recorded.mended),
+            word: None,
+            own: 0,
+        },
+        Some(last) => {
+            let before = mended_before(recorded.mended, receiver::mended_of(last));
+            let others = lines_passed(watch, recorded.used.saturating_sub(1), before);
+            after_line(others, recorded.receiver.open, last)
         }
     }
 }

@@ -47,18 +47,18 @@ fitting_bytes-end-requires c = tt
 pub loop-state-init : goal.loop-state-init
 loop-state-init c = (c.fitting_bytes-end.ensures, walks_start _ _ _ _ refl refl)
 
-pub slice_bounds-to_next_stop-end : goal.slice_bounds-to_next_stop-end
-slice_bounds-to_next_stop-end c = let end = c.loop-state.invariant.0 in search rules
+pub slice_bounds-part-end : goal.slice_bounds-part-end
+slice_bounds-part-end c = let end = c.loop-state.invariant.0 in search rules
 
-pub to_next_stop-next-requires : goal.to_next_stop-next-requires
-to_next_stop-next-requires c =
-    let turn = (goal.at.to_next_stop-next-requires c).In-loop-state in
+pub to_next_stop-state-requires : goal.to_next_stop-state-requires
+to_next_stop-state-requires c =
+    let turn = (goal.at.to_next_stop-state-requires c).In-loop-state in
     (has_room c.loop-state.invariant.1 (more turn) (few turn), rw (part_of turn) (left-of turn))
 
 pub loop-state-smaller : goal.loop-state-smaller
 loop-state-smaller c =
     let turn = (goal.at.loop-state-smaller c).In-loop-state in
-    let call = c.to_next_stop-next in
+    let call = c.to_next_stop-state in
     let StopsAt : List ℕ → Type 0 = λ lines. Stops c.loop-state.state lines c.loop-state.«record» c.loop-state.room call.result call.new.«record» call.new.room in
     let stopped = subst StopsAt (part_of turn) call.ensures in
     let far = further c.loop-state.invariant.1 (more turn) (few turn) stopped call.auto.«record» call.auto.room in
@@ -68,7 +68,7 @@ loop-state-smaller c =
 pub loop-state-preserved : goal.loop-state-preserved
 loop-state-preserved c =
     let turn = (goal.at.loop-state-preserved c).In-loop-state in
-    let call = c.to_next_stop-next in
+    let call = c.to_next_stop-state in
     let StopsAt : List ℕ → Type 0 = λ lines. Stops c.loop-state.state lines c.loop-state.«record» c.loop-state.room call.result call.new.«record» call.new.room in
     let stopped = subst StopsAt (part_of turn) call.ensures in
     (c.loop-state.invariant.0, walks-on c.loop-state.invariant.1 (more turn) (few turn) stopped call.auto.«record» call.auto.room)

@@ -1,7 +1,9 @@
 -- `announcing::page_in` meets its contract.
-use mathlib.Core.Path.{◌∙◌, ap}
+use Rattle.std.proofs.Common.{◌∙◌, ap}
 use Rattle.page.specs.Reading.{page_read}
+use Rattle.announcing.proofs.Fresh.{given_or}
 use Rattle.announcing.proofs.page_in.Goals as goal
 
 pub returns : goal.returns
-returns c = c.read_record-read.ensures.1 ∙ ap page_read c.first_bytes.ensures
+unfolding page_read
+returns c = c.unwrap_or.ensures ∙ (given_or c.read_record.result ∙ (c.read_record.ensures.beside ∙ ap page_read c.first_bytes.ensures))

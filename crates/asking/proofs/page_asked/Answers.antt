@@ -1,11 +1,9 @@
 -- `asking::page_asked` meets its contract: by the argument's length, and whether it has its digits.
-use borrow.Author.Rules.{rules}
 use mathlib.Core.Option.{some}
 use mathlib.Core.Path.{sym, ◌∙◌, ap}
 use Rattle.receiver.specs.declared.When.{When}
 use Rattle.asking.specs.Asked.{asked_for, selection_asked}
 use Rattle.asking.proofs.Arguments.{both_are, number-alone, no_number, with-time, no-time, other_length}
-use borrow.Author.Rules.{rules}
 use Rattle.asking.proofs.page_asked.Goals as goal
 
 pub returns-then-is_number : goal.returns-then-is_number
@@ -29,7 +27,7 @@ returns-then-is_number-is_time c =
     let argument = call.args.argument.now in
     let is = sym (both_are call.is_number-then-argument-eq-TIMED.ensures c.is_time.ensures) ∙ c.if-is_number-is_time.true in
     ap some c.selection_asked-then-is_number-is_time.ensures
-    ∙ (ap (λ (w : When). some (selection_asked argument w)) c.time_asked-when.ensures
+    ∙ (ap (λ (w : When). some (selection_asked argument w)) c.time_asked.ensures
     ∙ sym (with-time argument call.if-argument-eq-TIMED.true is))
 
 pub returns-else-is_number-is_time : goal.returns-else-is_number-is_time

@@ -1,29 +1,27 @@
--- `choosing::length_before` meets its contract. The loop's invariant: the bytes so far, with the front of those that are left, are the front.
-use mathlib.Core.Path.{ap}
-use native.Mathlib.Numerals.{add-one}
+-- `choosing::length_before` meets its contract: the front is as long as the place of the first mark.
+use mathlib.Core.Path.{◌≡◌, refl, ◌∙◌, ap}
+use mathlib.Core.Bool.{Bool, true, false, cond}
+use Prim.Native.Nat.{ℕ, ◌≤◌}
 use native.Mathlib.Omega.{arith}
-use borrow.Author.Rules.{rules}
-use lib.ListN.{length, drop_of_length-le}
-use Rattle.choosing.specs.Chosen.{front}
-use Rattle.choosing.proofs.Marks.{front-at-mark, front-goes-on}
+use borrow.Author.Tests.{ltb-false}
+use lib.Dec.{ltb}
+use lib.ListN.{length}
+use Rattle.std.specs.Prelude.{Option, Some, None}
+use Rattle.std.specs.Option.{unwrap_or}
+use Rattle.choosing.proofs.Marks.{front_length, front_short}
 use Rattle.choosing.proofs.length_before.Goals as goal
 
-pub returns-then-text-i : goal.returns-then-text-i
-returns-then-text-i c =
-    let turn = c.before.before.before in
-    let ends = front-at-mark turn.before.args.mark turn.before.args.text.now turn.loop-i.i (search rules) c.if-text-i.true in
-    (omega arith, search rules)
-
-pub loop-i-preserved : goal.loop-i-preserved
-loop-i-preserved c =
-    let turn = c.before.before.before in
-    let on = front-goes-on turn.before.args.mark turn.before.args.text.now turn.loop-i.i (search rules) c.if-text-i.false in
-    (search rules, rw (add-one turn.loop-i.i) (omega arith))
+-- a place, or the length where it is none below that
+at_most : (below : Bool) (place size : ℕ) → ltb place size ≡ below → place ≤ size → unwrap_or (cond below (Some place) None) size ≡ place
+at_most true place size e h = refl
+at_most false place size e h = let past = ltb-false place size e in omega arith
 
 pub returns : goal.returns
-unfolding front
 returns c =
-    let a = c.before.before.args in
-    let left = drop_of_length-le a.text.now {i = c.before.loop-i.i} (search rules) in
-    let none = ap (λ text. length (front a.mark text)) left in
-    (omega arith, search rules)
+    let text = c.args.text.now in
+    let long = front_length c.args.mark text in
+    let short = front_short c.args.mark text in
+    let is =
+    c.unwrap_or.ensures ∙ ap (λ (found : Option ℕ). unwrap_or found (length text)) c.first_mark.ensures
+    ∙ at_most _ _ _ refl (omega arith) ∙ long in
+    (is, omega arith)

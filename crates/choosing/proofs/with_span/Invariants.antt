@@ -1,6 +1,6 @@
 use mathlib.Core.Path.{◌≡◌}
 use mathlib.Core.Bool.{false, ◌||◌}
-use Prim.Native.Nat.{ℕ, suc, ◌-◌, ◌<◌, ◌≤◌}
+use Prim.Native.Nat.{ℕ, suc, ◌<◌}
 use lib.ListN.{length, get_or}
 use Rattle.grid.specs.Grid.{last_row}
 use Rattle.choosing.specs.Chosen.{covers}
@@ -8,7 +8,4 @@ use Rattle.choosing.proofs.with_span.Given as goal
 
 abbrev pub invariant-loop-i : goal.invariant-loop-i
 invariant-loop-i l =
-    (l.i ≤ last_row) × (length l.joined ≡ last_row) × ((k : ℕ) → k < l.i → get_or l.joined k false ≡ (get_or l.wanted k false || covers l.span (suc k)))
-
-abbrev pub decreases-loop-i : goal.decreases-loop-i
-decreases-loop-i l = last_row - l.i
+    (length l.joined ≡ last_row) × ((k : ℕ) → k < l.i → get_or l.joined k false ≡ (get_or l.wanted k false || covers l.span (suc k)))

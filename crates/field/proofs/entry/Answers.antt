@@ -1,16 +1,16 @@
 -- `field::entry` meets its contract: at each return the tests that led there say which case of `start` holds.
 use mathlib.Core.Path.{sym, ◌∙◌}
 use borrow.Author.Tests.{eq-eqb, ne_eqb, lt-ltb, le-ltb}
-use Rattle.field.specs.Field.{start}
-use Rattle.field.specs.Private.{first_start}
+use Rattle.field.specs.Field.{error_paper, start}
+use Rattle.field.specs.Private.{entry_told, start_told}
 use Rattle.field.proofs.entry.Goals as goal
 
 pub returns-then-field-eq0 : goal.returns-then-field-eq0
-unfolding start first_start
+unfolding start entry_told start_told error_paper
 returns-then-field-eq0 c = simp (eq-eqb _ _ c.if-field-eq0.true)
 
 pub returns-then-not-is_known : goal.returns-then-not-is_known
-unfolding start first_start
+unfolding start entry_told start_told error_paper
 returns-then-not-is_known c =
     simp (
       ne_eqb _ _ c.if-field-eq0.false,
@@ -18,7 +18,7 @@ returns-then-not-is_known c =
     )
 
 pub returns-then-place-field : goal.returns-then-place-field
-unfolding start first_start
+unfolding start entry_told start_told error_paper
 returns-then-place-field c =
     simp (
       ne_eqb _ _ c.if-field-eq0.false,
@@ -27,7 +27,7 @@ returns-then-place-field c =
     )
 
 pub returns-then-place-eq0 : goal.returns-then-place-eq0
-unfolding start first_start
+unfolding start entry_told start_told error_paper
 returns-then-place-eq0 c =
     simp (
       ne_eqb _ _ c.if-field-eq0.false,
@@ -37,7 +37,7 @@ returns-then-place-eq0 c =
     )
 
 pub returns : goal.returns
-unfolding start first_start
+unfolding start entry_told start_told error_paper
 returns c =
     simp (
       ne_eqb _ _ c.if-field-eq0.false,

@@ -1,73 +1,58 @@
 -- `field::look_at` meets its contract: by what `unit_here` promises of the place and `look_at_line` of a unit of a teletext id.
 use mathlib.Core.Path.{◌≡◌, sym, ◌∙◌, ap}
-use mathlib.Core.Bool.{Bool}
-use mathlib.Core.List.{List}
-use Prim.Native.Nat.{ℕ}
+use Prim.Native.Nat.{◌<◌}
 use native.Mathlib.Omega.{arith}
 use lib.Dec.{lit<}
-use Rattle.field.specs.Field.{id_at, teletext_id, here, any_unit_paper}
+use lib.ListN.{length}
+use Rattle.field.specs.Field.{id_at, teletext_id, here, error_paper, any_unit_paper}
 use Rattle.field.specs.Search.{found_paper}
 use Rattle.field.specs.Private.{go_on, look_told, step_told}
+use Rattle.field.specs.declared.FieldError.{FieldError}
+use Rattle.field.specs.declared.FieldError.TheVariants.{NoField, PastField, Short, WrongLength}
 use Rattle.field.proofs.Units.{is_unit, teletext_length_law}
 use Rattle.field.proofs.Steps.{leaves, Tells, tells, other-id, line-decides}
 use Rattle.field.proofs.look_at.Goals as goal
-use Rattle.field.proofs.look_at.Goals.{After-is_teletext}
+use Rattle.field.proofs.look_at.Goals.{In-Ok-Some}
 
 -- what `unit_here` told of the unit whose id is asked
-
-abbrev field_of : After-is_teletext → List ℕ
-field_of c = c.args.field.now
-
-abbrev place_of : After-is_teletext → ℕ
-place_of c = c.args.place
-
-abbrev after-of : After-is_teletext → ℕ
-after-of c = c.in-Whole.after
-
-told : (c : After-is_teletext)
-    → Tells (field_of c) (place_of c) (here (field_of c) (place_of c)) c.in-Whole.id c.in-Whole.length (after-of c)
+told : (c : In-Ok-Some)
+    → let unit = c.in-Ok-Some.unit in
+    Tells c.args.field.now c.args.place (here c.args.field.now c.args.place) unit.id unit.length unit.after
 unfolding any_unit_paper
-told c =
-    tells _ _ _ _ _ _
-    (sym (ap any_unit_paper c.in-Whole.is) ∙ c.unit_here.ensures)
+told c = tells _ _ _ _ _ _ (rw c.in-Ok-Some.field-0-is at c.in-Ok-Some.ensures)
 
-id-is : (c : After-is_teletext) {found : Bool} → c.is_teletext.result ≡ found → teletext_id (id_at (field_of c) (place_of c)) ≡ found
-id-is c e = ap teletext_id (sym (told c).id-is) ∙ (sym c.is_teletext.ensures ∙ e)
+id-is : (c : In-Ok-Some) → teletext_id c.in-Ok-Some.unit.id ≡ teletext_id (id_at c.args.field.now c.args.place)
+id-is c = ap teletext_id (told c).id-is
+
+few_values : (error : FieldError) → length (error_paper error).values < 3
+unfolding error_paper
+few_values NoField = lit< tt
+few_values PastField = lit< tt
+few_values (Short place) = lit< tt
+few_values (WrongLength place) = lit< tt
 
 pub look_at_line-requires : goal.look_at_line-requires
 look_at_line-requires c =
-    let d = (goal.at.look_at_line-requires c).After-is_teletext in
+    let d = (goal.at.look_at_line-requires c).In-Ok-Some in
     let is = is_unit _ _ (told d).stands in
-    let long = teletext_length_law _ _ c.requires.1 is (id-is d c.if-is_teletext.true) in
+    let long = teletext_length_law _ _ c.requires.1 is (sym (c.if-is_teletext.ensures ∙ id-is d)) in
     (omega (arith, is.whole), (told d).after_is)
 
 pub returns-then-is_teletext : goal.returns-then-is_teletext
 returns-then-is_teletext c =
-    let d = (goal.at.returns-then-is_teletext c).After-is_teletext in
-    c.look_at_line.ensures ∙ ap (step_told (field_of d)) (line-decides _ _ (told d).stands (id-is d c.if-is_teletext.true))
+    let d = (goal.at.returns-then-is_teletext c).In-Ok-Some in
+    c.look_at_line.ensures ∙ ap (step_told _) (line-decides _ _ (told d).stands (sym (c.if-is_teletext.ensures ∙ id-is d)))
 
 pub returns-else-is_teletext : goal.returns-else-is_teletext
 unfolding look_told step_told
 returns-else-is_teletext c =
-    let d = (goal.at.returns-else-is_teletext c).After-is_teletext in
-    ap go_on (told d).after_is ∙ ap (step_told (field_of d)) (other-id _ _ (told d).stands (id-is d c.if-is_teletext.false))
+    let d = (goal.at.returns-else-is_teletext c).In-Ok-Some in
+    ap go_on (told d).after_is ∙ ap (step_told _) (other-id _ _ (told d).stands (sym (c.if-is_teletext.ensures ∙ id-is d)))
 
-pub returns-in-End : goal.returns-in-End
+pub returns-in-Ok-None : goal.returns-in-Ok-None
 unfolding look_told found_paper any_unit_paper
-returns-in-End c = leaves _ _ _ (sym (ap any_unit_paper c.in-End.is) ∙ c.unit_here.ensures) (lit< tt)
+returns-in-Ok-None c = leaves _ _ _ (rw c.in-Ok-None.field-0-is at c.in-Ok-None.ensures) (lit< tt)
 
-pub returns-in-NoField : goal.returns-in-NoField
+pub returns-in-Err : goal.returns-in-Err
 unfolding look_told found_paper any_unit_paper
-returns-in-NoField c = leaves _ _ _ (sym (ap any_unit_paper c.in-NoField.is) ∙ c.unit_here.ensures) (lit< tt)
-
-pub returns-in-PastField : goal.returns-in-PastField
-unfolding look_told found_paper any_unit_paper
-returns-in-PastField c = leaves _ _ _ (sym (ap any_unit_paper c.in-PastField.is) ∙ c.unit_here.ensures) (lit< tt)
-
-pub returns-in-Short : goal.returns-in-Short
-unfolding look_told found_paper any_unit_paper
-returns-in-Short c = leaves _ _ _ (sym (ap any_unit_paper c.in-Short.is) ∙ c.unit_here.ensures) (lit< tt)
-
-pub returns-in-WrongLength : goal.returns-in-WrongLength
-unfolding look_told found_paper any_unit_paper
-returns-in-WrongLength c = leaves _ _ _ (sym (ap any_unit_paper c.in-WrongLength.is) ∙ c.unit_here.ensures) (lit< tt)
+returns-in-Err c = leaves _ _ _ c.in-Err.ensures (few_values c.in-Err.error)

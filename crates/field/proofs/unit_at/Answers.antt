@@ -1,25 +1,24 @@
 -- `field::unit_at` meets its contract: by what `entry` promises of the place asked and `unit_here` of the place behind it.
-use mathlib.Core.Path.{sym, ◌∙◌, ap}
-use Rattle.field.specs.Field.{unit_from, any_unit_paper}
-use Rattle.field.specs.Private.{first_start}
+use mathlib.Core.Path.{refl, sym, ◌∙◌}
+use Rattle.std.proofs.lemmas.Result.{err_from_is_err_and}
+use Rattle.field.specs.Field.{start, unit_from, any_unit_paper}
+use Rattle.field.specs.Private.{entry_told}
 use Rattle.field.proofs.Units.{begins, unit_from_law}
+use Rattle.field.proofs.Steps.{told_place, told_refusal}
 use Rattle.field.proofs.unit_at.Goals as goal
 
+pub returns-in_err-first : goal.returns-in_err-first
+unfolding unit_from any_unit_paper entry_told
+returns-in_err-first c =
+    let error = err_from_is_err_and c.from_residual.result c.from_residual.ensures.1 in
+    rw (error.1, error.2) (told_refusal (unit_from _) (λ number. refl) _ c.in_err-first.ensures ∙ unit_from_law _ _ refl)
+
 pub unit_here-requires : goal.unit_here-requires
-unfolding first_start
+unfolding entry_told
 unit_here-requires c =
-    (begins _ _ _ (sym c.entry.ensures ∙ ap first_start c.in-At.is)).within
+    (begins _ _ _ (told_place _ c.in_ok-first.ensures)).within
 
-pub returns-in-At : goal.returns-in-At
-unfolding unit_from first_start
-returns-in-At c =
-    c.unit_here.ensures
-    ∙ unit_from_law _ _ (sym (ap first_start c.in-At.is) ∙ c.entry.ensures)
-
-pub returns-in-NoField : goal.returns-in-NoField
-unfolding unit_from first_start any_unit_paper
-returns-in-NoField c = unit_from_law _ _ (sym (ap first_start c.in-NoField.is) ∙ c.entry.ensures)
-
-pub returns-in-PastField : goal.returns-in-PastField
-unfolding unit_from first_start any_unit_paper
-returns-in-PastField c = unit_from_law _ _ (sym (ap first_start c.in-PastField.is) ∙ c.entry.ensures)
+pub returns : goal.returns
+unfolding unit_from entry_told
+returns c =
+    c.unit_here.ensures ∙ unit_from_law _ _ (sym (told_place (start _ _) c.in_ok-first.ensures))

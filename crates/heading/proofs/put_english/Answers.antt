@@ -1,26 +1,20 @@
 -- `heading::put_english` meets its contract: the words and the value, or nothing.
-use mathlib.Core.Path.{◌∙◌, ap}
-use mathlib.Core.List.{List, ◌++◌}
-use Prim.Native.Nat.{ℕ}
-use native.Mathlib.Omega.{arith}
-use lib.ListN.{length}
-use Rattle.texts.proofs.Putting.{as_text, put-fits, put_none, put_then, same_room}
+use Rattle.std.proofs.Common.{◌≡◌, true, false, sym, ◌∙◌}
+use Rattle.texts.proofs.Held.{adds_none, adds_put, adds_then}
 use Rattle.letters.specs.Said.{stand_in_text}
-use Rattle.heading.specs.Line.{comma}
-use Rattle.heading.proofs.Words.{not-needed, stands}
+use Rattle.letters.specs.Sets.{stands_in}
+use Rattle.heading.specs.Line.{english_text}
 use Rattle.heading.proofs.put_english.Goals as goal
 
 pub returns-then-stands_in : goal.returns-then-stands_in
-unfolding stand_in_text
+unfolding english_text
 returns-then-stands_in c =
-    let size = ap length c.stand_in_text-words.ensures in
-    let first = put-fits (omega (arith, c.requires)) c.put-end.ensures in
-    let same = same_room first (omega (arith, c.requires)) in
-    let ends = first.ends in
-    let second = put-fits (omega (arith, c.requires)) c.put.ensures in
-    as_text (put_then first (omega (arith, c.requires)) second)
-    (ap (λ (text : List ℕ). text ++ comma) c.stand_in_text-words.ensures ∙ stands c.args.control c.if-stands_in.true c.stands_in.ensures)
+    let is : stands_in c.args.control ≡ true = sym c.stands_in.ensures ∙ c.if-stands_in.true in
+    rw is
+    (adds_then (adds_put (stand_in_text c.args.control) (rw c.stand_in_text.ensures at c.put.ensures)) (adds_put _ c.put-then-stands_in.ensures))
 
-pub returns : goal.returns
-returns c =
-    as_text (put_none c.args.room.now c.args.at) (not-needed c.args.control c.if-stands_in.false c.stands_in.ensures)
+pub returns-else-stands_in : goal.returns-else-stands_in
+unfolding english_text
+returns-else-stands_in c =
+    let is : stands_in c.args.control ≡ false = sym c.stands_in.ensures ∙ c.if-stands_in.false in
+    rw is (adds_none _)

@@ -7,4 +7,4 @@ use Rattle.packet.proofs.is_mended.Goals as goal
 
 pub returns : goal.returns
 unfolding corrected
-returns c = ap corrected c.tests_of-tests.ensures ∙ sym (corrected_turned c.args.byte (search rules))
+returns c = ap corrected c.tests_of.ensures ∙ sym (corrected_turned c.args.byte (search rules))

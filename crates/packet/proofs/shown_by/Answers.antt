@@ -1,30 +1,27 @@
 use native.Mathlib.Omega.{arith}
 use Rattle.packet.specs.Addresses.{shown}
-use Rattle.coding.specs.Heard.{message_heard}
+use Rattle.coding.specs.Heard.{heard}
 use Rattle.coding.proofs.Heard.{small_good}
 use Rattle.packet.proofs.shown_by.Goals as goal
 
 pub overflow_mul-result : goal.overflow_mul-result
-unfolding message_heard shown
-overflow_mul-result c = omega (arith, small_good _ _ c.requires.1 c.in-Good-two.is)
+overflow_mul-result c = omega (arith, small_good _ _ c.requires.1 c.in-Some-Some.is-1)
 
 pub overflow_add-result : goal.overflow_add-result
-unfolding message_heard shown
-overflow_add-result c =
-    omega (arith, small_good _ _ c.requires.0 c.in-Good.is, small_good _ _ c.requires.1 c.in-Good-two.is)
+overflow_add-result c = omega (arith, small_good _ _ c.requires.0 c.in-Some-Some.is-0, small_good _ _ c.requires.1 c.in-Some-Some.is-1)
 
-pub returns-in-Good-two : goal.returns-in-Good-two
-unfolding message_heard shown
-returns-in-Good-two c = rw (c.in-Good.is, c.in-Good-two.is, c.magazine_of.ensures)
+pub returns-in-Some-Some : goal.returns-in-Some-Some
+unfolding heard shown
+returns-in-Some-Some c = rw (c.in-Some-Some.is-0, c.in-Some-Some.is-1, c.magazine_of.ensures)
 
-pub returns-in-Refused-two : goal.returns-in-Refused-two
-unfolding message_heard shown
-returns-in-Refused-two c = rw (c.in-Good.is, c.in-Refused-two.is, c.magazine_of-in-Refused-two.ensures)
+pub returns-in-Some-None : goal.returns-in-Some-None
+unfolding heard shown
+returns-in-Some-None c = rw (c.in-Some-None.is-0, c.in-Some-None.is-1, c.magazine_of-in-Some-None.ensures)
 
-pub returns-in-Good-two-2 : goal.returns-in-Good-two-2
-unfolding message_heard shown
-returns-in-Good-two-2 c = rw (c.in-Refused.is, c.in-Good-two-2.is)
+pub returns-in-None-Some : goal.returns-in-None-Some
+unfolding heard shown
+returns-in-None-Some c = rw (c.in-None-Some.is-0, c.in-None-Some.is-1)
 
-pub returns-in-Refused-two-2 : goal.returns-in-Refused-two-2
-unfolding message_heard shown
-returns-in-Refused-two-2 c = rw (c.in-Refused.is, c.in-Refused-two-2.is)
+pub returns-in-None-None : goal.returns-in-None-None
+unfolding heard shown
+returns-in-None-None c = rw (c.in-None-None.is-0, c.in-None-None.is-1)

@@ -1,15 +1,9 @@
 use mathlib.Core.Path.{◌≡◌}
-use Prim.Native.Nat.{ℕ, ◌+◌, ◌-◌, ◌≤◌, ◌<◌}
+use Prim.Native.Nat.{ℕ, ◌+◌, ◌<◌}
 use lib.ListN.{length, get_or}
 use Rattle.coding.specs.Bits.{turned_byte}
 use Rattle.grid.specs.Grid.{columns}
-use Rattle.packet.specs.Lines.{packet_length}
 use Rattle.packet.proofs.text_of.Given as goal
 
 abbrev pub invariant-loop-column : goal.invariant-loop-column
-invariant-loop-column l =
-    (l.column ≤ columns) × (columns ≡ length l.bytes) × (length l.packet ≡ packet_length)
-    × ((k : ℕ) → k < l.column → get_or l.bytes k 0 ≡ turned_byte (get_or l.packet (2 + k) 0))
-
-abbrev pub decreases-loop-column : goal.decreases-loop-column
-decreases-loop-column l = columns - l.column
+invariant-loop-column l = (columns ≡ length l.bytes) × ((k : ℕ) → k < l.column → get_or l.bytes k 0 ≡ turned_byte (get_or l.packet (2 + k) 0))

@@ -15,7 +15,7 @@ use Rattle.packing.proofs.unpacked.Goals.{After-upper_bits, After-word_of-word}
 -- the words that were made
 module _ (c : After-upper_bits) where
   abbrev read : After-word_of-word
-  read = c.before.before.before
+  read = c.before.before
 
   abbrev first : List ℕ
   first = read.before.args.first
@@ -27,14 +27,14 @@ module _ (c : After-upper_bits) where
   first-bytes = eight_bytes first (search rules) (λ k. search rules)
 
   last_byte : last < 256
-  last_byte = let byte = c.before.wide.ensures in rw byte.0 at byte.1
+  last_byte = search rules
 
-  cells : c.before.before.together.result * 256 + c.before.wide.result ≡ lasts_read first first-bytes last last_byte
+  cells : c.before.together.result * 256 + last ≡ lasts_read first first-bytes last last_byte
   cells =
-      let bytes = c.before.before.together.ensures.0 ∙ ap (λ (n : ℕ). binary (bits_of (bytes_in n))) read.word_of-word.ensures in
-      λ i. bytes i * 256 + c.before.wide.ensures.0 i
+      let bytes = c.before.together.ensures.0 ∙ ap (λ (n : ℕ). binary (bits_of (bytes_in n))) read.word_of-word.ensures in
+      λ i. bytes i * 256 + last
 
-  marks : bit_and (c.before.before.together.result * 256 + c.before.wide.result) (over 128) / 128 + c.upper_bits.result ≡ marks_word first first-bytes last last_byte
+  marks : bit_and (c.before.together.result * 256 + last) (over 128) / 128 + c.upper_bits.result ≡ marks_word first first-bytes last last_byte
   marks =
       let upper = c.upper_bits.ensures ∙ ap (λ (n : ℕ). binary (bits_of (map twice (bits_in n)))) read.word_of-word.ensures in
       λ i. bit_and (cells i) (over 128) / 128 + upper i

@@ -15,10 +15,10 @@ pub complain-requires : goal.complain-requires
 complain-requires g c =
     let taken = c in
     let start = taken in
-    c.english_line-line.ensures ∙ (by_answer start.args.control taken.if-english.true ∙ start.requires)
+    c.english_line.ensures ∙ (by_answer start.args.control taken.if-english.true ∙ start.requires)
 
 pub returns-then-english : goal.returns-then-english
 returns-then-english g c =
     let call = c in
     let taken = call in
-    c.complain.ensures ∙ ap length (call.english_line-line.ensures ∙ by_answer taken.args.control taken.if-english.true)
+    c.complain.ensures ∙ ap length (call.english_line.ensures ∙ by_answer taken.args.control taken.if-english.true)

@@ -11,19 +11,18 @@ use Rattle.printing.proofs.Pages.{all_laid, laid, none-laid, one-laid}
 use Rattle.printing.proofs.text_of.Goals as goal
 
 pub loop-place-init : goal.loop-place-init
-loop-place-init c = (search rules, c.requires, sym (none-laid c.args.cells))
+loop-place-init c = sym (none-laid c.args.cells.now)
 
 pub loop-place-preserved : goal.loop-place-preserved
 unfolding cell_byte zero_cell
 loop-place-preserved c =
-    let cells = c.args.cells in
+    let cells = c.args.cells.now in
     let place = c.loop-place.place in
-    let text = ap (λ (text : List ℕ). set text (place + place / columns) c.byte_of.result) c.loop-place.invariant.2 in
+    let text = ap (λ (text : List ℕ). set text (place + place / columns) c.byte_of.result) c.loop-place.invariant in
     let byte = ap (set (laid cells place) (place + place / columns)) c.byte_of.ensures in
-    (search rules, c.loop-place.invariant.1, text ∙ (byte ∙ one-laid cells place))
+    text ∙ (byte ∙ one-laid cells place)
 
 pub returns : goal.returns
 returns c =
-    let cells = c.args.cells in
     let all : c.loop-place.place ≡ cell_count = search rules in
-    c.loop-place.invariant.2 ∙ (ap (laid cells) all ∙ all_laid cells c.loop-place.invariant.1)
+    c.loop-place.invariant ∙ (ap (laid c.args.cells.now) all ∙ all_laid c.args.cells.now c.told-cells)

@@ -35,9 +35,8 @@ pub slice_bounds-write_said-end : goal.slice_bounds-write_said-end
 slice_bounds-write_said-end g c =
     sym (length-take-le c.announce-announced.result.length c.announce-announced.new.room (within g (goal.at.slice_bounds-write_said-end g c).After-announce-announced))
 
-pub write_said-written-requires : goal.write_said-written-requires
-write_said-written-requires g c =
-    first g (goal.at.write_said-written-requires g c).After-announce-announced
+pub write_said-requires : goal.write_said-requires
+write_said-requires g c = first g (goal.at.write_said-requires g c).After-announce-announced
 
 pub returns : goal.returns
 returns g c =

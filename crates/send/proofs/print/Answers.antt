@@ -11,8 +11,5 @@ use Rattle.send.proofs.print.Given.{Over}
 all_counted : (g : Over) (start : Start g) → length start.args.lines.now + length start.args.closing.now ≡ length (output start.args.«record».now start.args.wanted)
 all_counted g start = sym (length-append start.args.lines.now start.args.closing.now) ∙ ap length start.requires.0
 
-pub returns-then-not-say : goal.returns-then-not-say
-returns-then-not-say g c = all_counted g (goal.at.returns-then-not-say g c).Start
-
 pub returns : goal.returns
 returns g c = all_counted g (goal.at.returns g c).Start

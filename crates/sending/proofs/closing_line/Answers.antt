@@ -2,8 +2,6 @@
 use mathlib.Core.Path.{ap, ◌∙◌}
 use Rattle.packet.specs.Writing.{data_line, header_packet}
 use Rattle.sending.specs.Closing.{closing_line, of_no_page}
-use Rattle.sending.specs.Sending.{row_characters}
-use borrow.Author.Rules.{rules}
 use Rattle.sending.proofs.closing_line.Goals as goal
 
 pub returns : goal.returns

@@ -1,13 +1,13 @@
--- `tally::mended_text` meets its contract: a number and its word, put into zeros.
-use native.Mathlib.Omega.{arith}
-use Rattle.texts.proofs.Growing.{and_then, fits, is-counted, is_held, none_yet}
-use Rattle.tally.specs.Tally.{mended_held, mended_size, mended_text}
+-- `tally::mended_text` meets its contract: a number and its word, put behind nothing.
+use Rattle.std.proofs.Common.{arith}
+use Rattle.texts.proofs.Held.{adds-first, held_fits}
+use Rattle.tally.specs.Tally.{mended_size, mended_text}
 use Rattle.tally.proofs.Tallying.{mended_length}
 use Rattle.tally.proofs.mended_text.Goals as goal
 
-pub returns : goal.returns
-unfolding mended_held mended_text
-returns c =
-    let count = c.args.count in
-    let grown = and_then (none_yet mended_size) c.put_count-used.ensures mended_size (mended_length count (omega arith)) (omega arith) in
-    record { value = rw (is_held grown (omega arith), is-counted grown); bytes_len = fits grown (omega arith) }
+pub returns-clause-value : goal.returns-clause-value
+unfolding mended_text
+returns-clause-value c = adds-first (mended_text c.args.count) c.new-text.ensures c.put_count.ensures (mended_length c.args.count (omega arith))
+
+pub returns-clause-bytes_len : goal.returns-clause-bytes_len
+returns-clause-bytes_len c = held_fits mended_size (mended_text c.args.count) (returns-clause-value c) (mended_length c.args.count (omega arith))

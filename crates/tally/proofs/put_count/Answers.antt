@@ -1,15 +1,13 @@
 -- `tally::put_count` meets its contract: the number, and behind it the word by whether it is one.
-use native.Mathlib.Omega.{arith}
-use Rattle.texts.proofs.Putting.{as_text}
-use Rattle.tally.proofs.Tallying.{count-one, count-other, number_then}
+use borrow.Author.Tests.{eq-eqb, ne_eqb}
+use Rattle.texts.proofs.Held.{adds_put, adds_then}
+use Rattle.tally.specs.Tally.{count_text}
 use Rattle.tally.proofs.put_count.Goals as goal
 
 pub returns-then-count-eq1 : goal.returns-then-count-eq1
-returns-then-count-eq1 c =
-    as_text (number_then c.args.count (omega arith) c.requires.0 c.put_number-end.ensures c.put.ensures)
-    (count-one _ _ _ c.if-count-eq1.true)
+unfolding count_text
+returns-then-count-eq1 g c = rw (eq-eqb c.args.count 1 c.if-count-eq1.true) (adds_then (adds_put _ c.put_decimal.ensures) (adds_put _ c.put.ensures))
 
-pub returns : goal.returns
-returns c =
-    as_text (number_then c.args.count (omega arith) c.requires.1 c.put_number-end.ensures c.put-2.ensures)
-    (count-other _ _ _ c.if-count-eq1.false)
+pub returns-else-count-eq1 : goal.returns-else-count-eq1
+unfolding count_text
+returns-else-count-eq1 g c = rw (ne_eqb c.args.count 1 c.if-count-eq1.false) (adds_then (adds_put _ c.put_decimal.ensures) (adds_put _ c.put-else-count-eq1.ensures))

@@ -1,83 +1,66 @@
 -- `units::list` meets its contract. The loop's invariant: what was printed is the listing as far as the listing from this place, and no line was
 -- longer than its room. The measure is what is left of the field.
 use mathlib.Core.Path.{◌≡◌, sym, ◌∙◌, ap}
-use mathlib.Core.Bool.{false≢true}
-use mathlib.Core.Option.{some}
-use Prim.Native.Nat.{ℕ, ◌+◌}
+use mathlib.Core.List.{List}
+use Prim.Native.Nat.{ℕ, ◌+◌, ◌≤◌}
 use native.Mathlib.Omega.{arith}
-use lib.ListN.{take, drop}
-use Rattle.listing.specs.Held.{next_paper}
-use Rattle.listing.specs.Lines.{line_at, listed}
-use Rattle.listing.proofs.Listing.{onward, sent_none, comes-next, sent-more, sent-all, used_is, text-is, used-inside, next-at}
+use lib.ListN.{length, take}
+use Rattle.listing.specs.Held.{held, listed_paper, next_paper, room}
+use Rattle.listing.specs.Lines.{Told, line_at}
+use Rattle.listing.specs.declared.Listed.{Listed}
+use Rattle.listing.proofs.Listing.{onward, sent_none, comes-next, sent-more, sent-all, used_is, text-is, next-at}
 use Rattle.units.proofs.list.Goals as goal
-use Rattle.units.proofs.list.Goals.{In-At}
-use Rattle.units.proofs.list.Given.{Over}
 
--- where the line goes on
-goes_on_law : (g : Over) (c : In-At g)
-    → let turn = c in
-    (line_at turn.args.field.now turn.loop-step.place).next ≡ some c.in-At.after
-unfolding next_paper
-goes_on_law g c =
-    let call = c in
-    next-at call.line_at-step.result (line_at _ _) call.line_at-step.ensures.result_value c.in-At.is
+-- the line that is printed is the step's text, and short
+module _ (answer : Listed) (step : Told) (is : listed_paper answer ≡ held step) {line : List ℕ} (lent : line ≡ take answer.line.used answer.line.bytes) where
+  printed : line ≡ step.text
+  printed = lent ∙ text-is answer step is
 
-pub loop-step-init : goal.loop-step-init
-loop-step-init g c = (sent_none _, omega arith)
+  short : answer.line.used ≤ room → length line ≤ room
+  short h = let used = used_is answer step is in let same = ap length printed in omega arith
+
+pub loop-line-init : goal.loop-line-init
+loop-line-init g c = (sent_none _, omega arith)
 
 pub print-requires : goal.print-requires
 print-requires g c =
-    let answer = c.line_at-step.result in
-    let is = c.line_at-step.ensures.result_value in
+    let now = c.loop-line in
     let field = c.args.field.now in
-    let place = c.loop-step.place in
-    let count = c.loop-step.count in
-    let next = comes-next field count place c.loop-step.invariant.0 in record {
-      used_in_bounds = used-inside answer (line_at field place) is;
-      bytes_value = text-is answer (line_at field place) is
-          ∙ (sym next ∙ ap (λ (n : ℕ). take n (drop count (listed field))) (sym (used_is answer (line_at field place) is)));
-    }
-
-pub returns-then-not-print : goal.returns-then-not-print
-returns-then-not-print g c = λ e. absurd (false≢true e)
+    let is = printed c.line_at-step.result (line_at field now.place) c.line_at-step.ensures.result_value c.as_bytes-line.ensures in
+    rw is (sym (comes-next field now.count now.place now.invariant.0))
 
 pub overflow_add-count : goal.overflow_add-count
 overflow_add-count g c =
-    let call = c in
-    let turn = call in
-    let inside = turn.loop-step.invariant.0.inside in
-    let small = turn.requires in
-    let used = call.line_at-step.ensures.used_le_room in
-    let few = turn.loop-step.invariant.1 in
+    let now = c.loop-line in
+    let inside = now.invariant.0.inside in
+    let few = short c.line_at-step.result (line_at c.args.field.now now.place) c.line_at-step.ensures.result_value c.as_bytes-line.ensures c.line_at-step.ensures.used_le_room in
     omega arith
 
-pub loop-step-smaller : goal.loop-step-smaller
-loop-step-smaller g c =
-    let on = onward _ _ _ (goes_on_law g (goal.at.loop-step-smaller g c).In-At) in
+pub returns-in_default : goal.returns-in_default
+unfolding next_paper
+returns-in_default g c =
+    let now = c.loop-line in
+    let step = line_at c.args.field.now now.place in
+    let is = c.line_at-step.ensures.result_value in
+    ap (λ (text : List ℕ). now.count + length text) (printed c.line_at-step.result step is c.as_bytes-line.ensures)
+    ∙ sent-all c.args.field.now now.count now.place now.invariant.0 (next-at c.line_at-step.result step is c.in_default.is)
+
+pub loop-line-smaller : goal.loop-line-smaller
+unfolding next_paper
+loop-line-smaller g c =
+    let on = onward _ _ _ (next-at c.line_at-step.result (line_at _ _) c.line_at-step.ensures.result_value c.in-Some.is) in
     let further = on.further in
     let within = on.within in
     omega arith
 
-pub loop-step-preserved : goal.loop-step-preserved
-loop-step-preserved g c =
-    let call = c in
-    let turn = call in
-    let further = (onward _ _ _ (goes_on_law g (goal.at.loop-step-preserved g c).In-At)).further in
-    let used = call.line_at-step.ensures.used_le_room in
-    let few = turn.loop-step.invariant.1 in
-    let field = turn.args.field.now in (
-      rw (used_is call.line_at-step.result (line_at field turn.loop-step.place) call.line_at-step.ensures.result_value) (sent-more field turn.loop-step.count turn.loop-step.place turn.loop-step.invariant.0 _ (goes_on_law g (goal.at.loop-step-preserved g c).In-At)),
-      omega arith,
-    )
-
-pub returns-in-Stop : goal.returns-in-Stop
+pub loop-line-preserved : goal.loop-line-preserved
 unfolding next_paper
-returns-in-Stop g c =
-    let call = c in
-    let turn = call in
-    let answer = call.line_at-step.result in
-    let field = turn.args.field.now in
-    let is = call.line_at-step.ensures.result_value in
-    λ e.
-    ap (λ (n : ℕ). turn.loop-step.count + n) (used_is answer (line_at field turn.loop-step.place) is)
-    ∙ sent-all field turn.loop-step.count turn.loop-step.place turn.loop-step.invariant.0 (next-at answer (line_at field turn.loop-step.place) is c.in-Stop.is)
+loop-line-preserved g c =
+    let now = c.loop-line in
+    let field = c.args.field.now in
+    let step = line_at field now.place in
+    let is = c.line_at-step.ensures.result_value in
+    let next = next-at c.line_at-step.result step is c.in-Some.is in
+    let further = (onward _ _ _ next).further in
+    let few = short c.line_at-step.result step is c.as_bytes-line.ensures c.line_at-step.ensures.used_le_room in
+    (rw (printed c.line_at-step.result step is c.as_bytes-line.ensures) (sent-more field now.count now.place now.invariant.0 _ next), omega arith)

@@ -1,26 +1,29 @@
 -- `watch::after_line` meets its contract: part by part, from what was heard in the answer.
-use Rattle.watch.specs.Watched.{line_watched, is_number, gap_after, own_after, own_closed}
-use Rattle.receiver.specs.Recordings.{is_accepted}
-use borrow.Author.Rules.{rules}
+use mathlib.Core.Path.{sym}
+use Rattle.receiver.specs.Entries.{refusal_number}
+use Rattle.watch.specs.Watched.{line_watched, own_after, own_closed}
+use Rattle.watch.proofs.Closed.{not_not, unclosed}
 use Rattle.watch.proofs.after_line.Goals as goal
 
 pub returns : goal.returns
-unfolding line_watched gap_after is_accepted is_number own_after own_closed
+unfolding line_watched own_after own_closed refusal_number
 returns c =
-    let closed = c in
-    let heard = closed.heard_in-heard.ensures in
     rw (
-      heard.number,
-      heard.closing,
-      closed.word_of-word.ensures,
-      closed.own_closed-own.ensures,
       c.gap_after.ensures,
       c.added_to.ensures,
       c.added_if.ensures,
+      c.is_refused.ensures,
       c.added_if-2.ensures,
+      c.is_refused-2.ensures,
       c.added_if-3.ensures,
       c.added_to-2.ensures,
       c.added_to-3.ensures,
       c.own_after.ensures,
-      closed.mended_of-more.ensures,
+      c.word_of.ensures,
+      c.own_closed.ensures,
+      c.mended_of-more.ensures,
+      c.closing_in-closing.ensures,
+      unclosed c.closing_in-closing.result,
+      sym c.is_some-closed.ensures,
+      not_not c.is_some-closed.result,
     )

@@ -1,23 +1,20 @@
 -- `watch::watch_recording` meets its contract: by how the recording ended.
-use Rattle.watch.specs.Watched.{recording_watched}
 use Rattle.receiver.specs.Recordings.{played_paper}
-use borrow.Author.Rules.{rules}
+use Rattle.watch.specs.Watched.{recording_watched}
 use Rattle.watch.proofs.watch_recording.Goals as goal
 
-pub returns-in-End : goal.returns-in-End
+pub returns-in-None : goal.returns-in-None
 unfolding recording_watched played_paper
-returns-in-End c = rw (c.in-End.is, c.lines_passed-all.ensures)
+returns-in-None c = rw (c.in-None.is, c.lines_passed.ensures)
 
-pub returns-in-Stopped : goal.returns-in-Stopped
+pub returns-in-Some : goal.returns-in-Some
 unfolding recording_watched played_paper
-returns-in-Stopped c =
-    let before = c in
-    let known = before in
+returns-in-Some c =
     rw (
-      known.in-Stopped.is,
+      c.in-Some.is,
       c.after_line.ensures,
       c.lines_passed-others.ensures,
-      c.less.ensures,
-      before.mended_before-before.ensures,
-      before.mended_of.ensures,
+      c.saturating_sub.ensures,
+      c.mended_before-before.ensures,
+      c.mended_of.ensures,
     )

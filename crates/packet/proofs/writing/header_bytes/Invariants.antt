@@ -1,6 +1,5 @@
 use mathlib.Core.Path.{◌≡◌}
 use mathlib.Core.List.{map}
-use Prim.Native.Nat.{◌-◌, ◌≤◌}
 use lib.ListN.{length}
 use lib.Seq.{paste}
 use Rattle.packet.specs.Texts.{header_column}
@@ -9,7 +8,5 @@ use Rattle.packet.proofs.writing.header_bytes.Given as goal
 
 abbrev pub invariant-loop-at : goal.invariant-loop-at
 invariant-loop-at l =
-    (l.at ≤ header_column) × (length l.messages ≡ header_column) × (length l.bytes ≡ header_length) × (l.bytes ≡ paste l.initial.bytes address_length (map message_byte l.messages) l.at)
-
-abbrev pub decreases-loop-at : goal.decreases-loop-at
-decreases-loop-at l = header_column - l.at
+    (length l.messages ≡ header_column) × (length l.initial.bytes ≡ header_length) × (length l.bytes ≡ header_length)
+    × (l.bytes ≡ paste l.initial.bytes address_length (map message_byte l.messages) l.at)

@@ -1,23 +1,12 @@
-use mathlib.Core.Path.{◌≡◌, refl}
-use native.Mathlib.Omega.{arith}
-use borrow.Author.Rules.{rules}
-use Rattle.laws.specs.Every.{every}
+use Rattle.std.proofs.Common.{rules, ◌≢◌, take, slice_index}
+use Rattle.std.specs.Prelude.{SomeIndex, IsTrue, ◌↔◌}
+use Rattle.std.proofs.iter.runs.Made.{chains}
 use Rattle.packet.specs.Texts.{header_column}
-use Rattle.page.proofs.Checks.{marked_more}
+use Rattle.page.proofs.Checks.{marked_by}
 use Rattle.page.proofs.lawful.header_columns_marked.Goals as goal
-
-pub loop-column-init : goal.loop-column-init
-unfolding every
-loop-column-init c = (search rules, search rules, refl)
-
-pub loop-column-preserved : goal.loop-column-preserved
-loop-column-preserved c =
-    let marks = c.args.marks.now in
-    let loop = c.loop-column in
-    (search rules, search rules, rw loop.invariant.2 (marked_more marks loop.column (omega arith)))
 
 pub returns : goal.returns
 returns c =
-    let loop = c.loop-column in
-    let end : loop.column ≡ header_column = omega arith in
-    rw end at loop.invariant.2
+    let columns = take header_column c.args.marks.now in
+    let some : IsTrue c.any.result ↔ SomeIndex columns (λ k. slice_index columns k ≢ 0) = search (rules, chains) in
+    marked_by columns c.any.result some

@@ -4,6 +4,7 @@ use Prim.Native.Nat.{ℕ, ◌*◌}
 use native.Mathlib.Omega.{arith}
 use borrow.Author.Rules.{rules}
 use lib.ListN.{length, replicate, take, drop}
+use Rattle.std.proofs.lemmas.Slice.{put_mid-paste}
 use Rattle.laws.proofs.Runs.{over}
 use Rattle.grid.specs.Grid.{cell_count}
 use Rattle.packing.specs.Cells.{group_cells}
@@ -46,35 +47,16 @@ module _ (c : After-unpacked-eight) where
       marks_read groups head_length bytes (search rules) here (search rules) c.eight_at.result _ eight c.eight_at.ensures refl
       c.unpacked-eight.ensures
 
-pub loop-group-init : goal.loop-group-init
-loop-group-init c = (search rules, search rules, search rules, search rules, refl, search rules, refl, refl)
-
-pub store-requires : goal.store-requires
-store-requires c =
-    let read = (goal.at.store-requires c).After-unpacked-eight in
-    omega (arith, eight-characters read, eight-marks read)
-
-pub store-requires-in-loop-group : goal.store-requires-in-loop-group
-store-requires-in-loop-group c =
-    let read = (goal.at.store-requires-in-loop-group c).After-unpacked-eight in
-    omega (arith, eight-characters read, eight-marks read)
-
 pub loop-group-preserved : goal.loop-group-preserved
 loop-group-preserved c =
     let read = (goal.at.loop-group-preserved c).After-unpacked-eight in
     let loop = c.loop-group in
-    let record-long = loop.invariant.3 in
-    let characters-long = length-all-characters (groups read) head_length (bytes read) record-long in
-    let marks-long = length-all-marks (groups read) head_length (bytes read) record-long in (
-      search rules,
-      search rules,
-      search rules,
-      search rules,
-      search rules,
-      search rules,
-      eight_laid _ (all_characters (groups read) (bytes read)) (here read) (omega arith) loop.characters _ (eight read).characters (eight-characters read) (read-characters read) loop.invariant.6
-          c.store.ensures,
-      eight_laid _ (all_marks (groups read) (bytes read)) (here read) (omega arith) loop.marks _ (eight read).marks (eight-marks read) (read-marks read) loop.invariant.7 c.store-in-loop-group.ensures,
+    let characters-long = length-all-characters (groups read) head_length (bytes read) (search rules) in
+    let marks-long = length-all-marks (groups read) head_length (bytes read) (search rules) in (
+      eight_laid _ (all_characters (groups read) (bytes read)) (here read) (omega arith) loop.characters _ (eight read).characters (eight-characters read) (read-characters read) loop.invariant.0
+          (put_mid-paste _ _ _ _ _ group_cells c.copy_from_slice.ensures.after (omega arith) (omega (arith, eight-characters read))),
+      eight_laid _ (all_marks (groups read) (bytes read)) (here read) (omega arith) loop.marks _ (eight read).marks (eight-marks read) (read-marks read) loop.invariant.1
+          (put_mid-paste _ _ _ _ _ group_cells c.copy_from_slice-in-loop-group.ensures.after (omega arith) (omega (arith, eight-marks read))),
     )
 
 pub returns : goal.returns
@@ -83,6 +65,6 @@ returns c =
     let groups = c.args.count * row_groups in
     let loop = c.loop-group in
     let end : loop.group ≡ groups = omega arith in
-    laid_filled c.args.count groups loop.invariant.4 «record» loop.characters loop.marks
-    (loop.invariant.6 ∙ ap (λ (k : ℕ). over (replicate cell_count space) (all_characters groups «record») (k * group_cells)) end)
-    (loop.invariant.7 ∙ ap (λ (k : ℕ). over (replicate cell_count never) (all_marks groups «record») (k * group_cells)) end)
+    laid_filled c.args.count groups refl «record» loop.characters loop.marks
+    (loop.invariant.0 ∙ ap (λ (k : ℕ). over (replicate cell_count space) (all_characters groups «record») (k * group_cells)) end)
+    (loop.invariant.1 ∙ ap (λ (k : ℕ). over (replicate cell_count never) (all_marks groups «record») (k * group_cells)) end)

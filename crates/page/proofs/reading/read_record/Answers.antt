@@ -1,4 +1,4 @@
-use mathlib.Core.Path.{◌≡◌, refl, ◌∙◌, ap, sym}
+use mathlib.Core.Path.{◌≡◌, ◌∙◌, ap, sym}
 use mathlib.Core.Bool.{Bool, true}
 use mathlib.Core.List.{List}
 use Prim.Native.Nat.{ℕ, ◌*◌, ◌≤◌}
@@ -12,9 +12,9 @@ use Rattle.grid.specs.Grid.{columns, rows}
 use Rattle.packing.specs.Cells.{cell_fields}
 use Rattle.page.specs.Lawful.{digits_lawful}
 use Rattle.page.specs.Private.{head_from, headed_read}
-use Rattle.page.specs.Reading.{filled, page_beside, rows_in}
+use Rattle.page.specs.Reading.{filled, rows_in}
 use Rattle.page.specs.Records.{cells_from, head_length, head_widths, record_length_of, row_code}
-use Rattle.page.specs.declared.ReadAnswer.TheVariants.{WrongLength, WrongRowCode, BadDigit}
+use Rattle.page.specs.declared.ReadError.TheVariants.{WrongLength, WrongRowCode, BadDigit}
 use Rattle.page.specs.declared.reading.Head.{Head}
 use Rattle.page.proofs.Forms.{head_in}
 use Rattle.page.proofs.Heads.{values_of_word}
@@ -57,35 +57,32 @@ pub overflow_add-count : goal.overflow_add-count
 overflow_add-count c = record { fits = omega (arith, (within _ _ c.rows_in-count.ensures).1) }
 
 pub returns-then-record-count : goal.returns-then-record-count
-unfolding page_beside
 returns-then-record-count c =
     let bytes = c.args.«record».now in
-    let n = c.rows_in-count.result in
-    refused_is bytes WrongLength (wrong_length_law bytes n c.rows_in-count.ensures c.if-record-count.true) refl c.refused.result c.refused.ensures
+    let right = refused_is bytes WrongLength (wrong_length_law bytes c.rows_in-count.result c.rows_in-count.ensures c.if-record-count.true) in
+    record { answer = right.0; beside = right.1 }
 
 pub eight_at-requires : goal.eight_at-requires
 eight_at-requires c = omega (arith, c.if-record-count.false, (within _ _ c.rows_in-count.ensures).0)
 
 pub returns-then-head-row_code : goal.returns-then-head-row_code
-unfolding page_beside
 returns-then-head-row_code c =
     let h = (goal.at.returns-then-head-row_code c).After-head_in-head in
     let bytes = c.args.«record».now in
     let n = c.rows_in-count.result in
     let other = ne_eqb _ _ (λ e. c.if-head-row_code.true (ap (λ (k : Head). k.code) (head h) ∙ (e ∙ sym c.row_code.ensures))) in
-    let wrong = wrong-code bytes n c.rows_in-count.ensures (whole h) other in
-    refused_is bytes WrongRowCode wrong refl c.refused-then-head-row_code.result c.refused-then-head-row_code.ensures
+    let right = refused_is bytes WrongRowCode (wrong-code bytes n c.rows_in-count.ensures (whole h) other) in
+    record { answer = right.0; beside = right.1 }
 
 pub returns-then-not-digits_lawful : goal.returns-then-not-digits_lawful
-unfolding page_beside
 returns-then-not-digits_lawful c =
     let h = (goal.at.returns-then-not-digits_lawful c).After-head_in-head in
     let bytes = c.args.«record».now in
     let n = c.rows_in-count.result in
     let digits = sym (digits_are _ _ _ (head h) c.digits_lawful.ensures) ∙ c.if-not-digits_lawful.true in
     let code = code_is _ _ _ n (head h) c.if-head-row_code.false c.row_code.ensures in
-    let bad = bad-digit bytes n c.rows_in-count.ensures (whole h) code digits in
-    refused_is bytes BadDigit bad refl c.refused-then-not-digits_lawful.result c.refused-then-not-digits_lawful.ensures
+    let right = refused_is bytes BadDigit (bad-digit bytes n c.rows_in-count.ensures (whole h) code digits) in
+    record { answer = right.0; beside = right.1 }
 
 pub with_cells-requires : goal.with_cells-requires
 with_cells-requires c = (c.if-record-count.false, (within _ _ c.rows_in-count.ensures).1)
@@ -98,5 +95,7 @@ returns c =
     let lawful = sym (digits_are _ _ _ (head h) c.digits_lawful.ensures) ∙ c.if-not-digits_lawful.false in
     let code = code_is _ _ _ n (head h) c.if-head-row_code.false c.row_code.ensures in
     let cells = filled (cells_from (cell_fields (n * columns) (drop head_length bytes))) in
-    let given = c.with_cells.ensures ∙ ap (λ (k : Head). headed_read k cells) (head h) in
-    headed-is bytes n c.rows_in-count.ensures (whole h) code lawful c.with_cells.result given
+    let right =
+    headed-is bytes n c.rows_in-count.ensures (whole h) code lawful
+    (c.with_cells.ensures ∙ ap (λ (k : Head). headed_read k cells) (head h)) in
+    record { answer = right.0; beside = right.1 }

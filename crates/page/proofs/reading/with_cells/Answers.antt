@@ -1,16 +1,19 @@
 use mathlib.Core.Path.{◌≡◌, ◌∙◌, ap, sym}
-use mathlib.Core.Bool.{true}
+use mathlib.Core.Bool.{true, false}
 use Prim.Native.Nat.{◌*◌}
 use lib.ListN.{drop}
+use Rattle.std.specs.Prelude.{Ok, is_ok}
+use Rattle.std.proofs.Common.{rules}
+use Rattle.std.proofs.lemmas.Result.{err_from_is_err_and}
 use Rattle.grid.specs.Grid.{columns}
 use Rattle.packing.specs.Cells.{cell_fields}
-use Rattle.page.specs.Lawful.{cells_checked, cells_fit}
+use Rattle.page.specs.Lawful.{cells_checked, cells_fit, cells_lawful}
 use Rattle.page.specs.Reading.{filled}
 use Rattle.page.specs.Records.{cells_from, head_length}
 use Rattle.page.specs.declared.Cells.{Cells}
-use Rattle.page.specs.declared.ReadAnswer.TheVariants.{Read}
+use Rattle.page.specs.declared.ReadError.TheVariants.{UnlawfulCells}
 use Rattle.page.proofs.AnyRows.{whole_cells}
-use Rattle.page.proofs.Checks.{lawful_shown, unlawful_shown}
+use Rattle.page.proofs.Checks.{lawful_is_ok}
 use Rattle.page.proofs.Filled.{filled-fits}
 use Rattle.page.proofs.Papers.{check_is}
 use Rattle.page.proofs.Forms.{cells_fit_here, headed, length_back}
@@ -26,9 +29,6 @@ module _ (c : After-check_cells) where
   unfolding cells-read
   cells_are = c.cells_in-cells.ensures
 
-  checked : c.check_cells.result ≡ cells_checked cells-read
-  checked = check_is _ _ c.check_cells.ensures ∙ ap cells_checked cells_are
-
   fit : cells_fit cells-read ≡ true
   unfolding cells-read
   fit =
@@ -37,17 +37,22 @@ module _ (c : After-check_cells) where
       filled-fits n c.requires.1 (cells_from (cell_fields (n * columns) (drop head_length bytes))) (whole_cells n (drop head_length bytes))
       (cells_fit_here n (drop head_length bytes) (length_back n bytes c.requires.0))
 
-pub returns-in_default : goal.returns-in_default
+  -- they are lawful just where the check has nothing against them
+  lawful : is_ok c.check_cells.result ≡ cells_lawful cells-read
+  lawful = ap is_ok (check_is _ _ c.check_cells.ensures ∙ ap cells_checked cells_are) ∙ lawful_is_ok cells-read fit
+
+pub returns-in_err-map_err : goal.returns-in_err-map_err
 unfolding cells-read
-returns-in_default c =
-    let k = (goal.at.returns-in_default c).After-check_cells in
-    let unlawful = unlawful_shown (cells-read k) (fit k) c.check_cells.result (checked k) c.in_default.not-Lawful in
-    c.refused.ensures ∙ (rw unlawful)
+returns-in_err-map_err c =
+    let k = (goal.at.returns-in_err-map_err c).After-check_cells in
+    let p = err_from_is_err_and c.from_residual.result c.from_residual.ensures.1 in
+    let other : cells_lawful (cells-read k) ≡ false = sym (lawful k) ∙ (sym c.map_err.ensures.variant ∙ ap is_ok c.in_err-map_err.was) in
+    let is : c.in_err-map_err.field-0.0 ≡ UnlawfulCells = search rules in
+    rw (p.1, p.2, is, other)
 
 pub returns : goal.returns
 unfolding cells-read
 returns c =
     let k = (goal.at.returns c).After-check_cells in
-    let head = c.args.head in
-    let lawful = lawful_shown (cells-read k) (fit k) (sym c.in-Lawful.is ∙ checked k) in
-    (λ i. record { answer = Read; page = headed head (cells_are k i) }) ∙ (rw lawful)
+    let is : cells_lawful (cells-read k) ≡ true = sym (lawful k) ∙ (sym c.map_err.ensures.variant ∙ ap is_ok c.in_ok-map_err.was) in
+    (λ i. Ok (headed c.args.head (cells_are k i))) ∙ (rw is)

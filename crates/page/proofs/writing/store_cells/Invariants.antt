@@ -1,17 +1,12 @@
 use mathlib.Core.Path.{◌≡◌}
-use Prim.Native.Nat.{◌*◌, ◌-◌, ◌≤◌}
-use lib.ListN.{length}
+use Prim.Native.Nat.{◌*◌}
 use lib.Seq.{paste}
 use Rattle.grid.specs.Grid.{cell_count}
 use Rattle.packing.specs.Cells.{cell_bytes, group_bytes}
-use Rattle.page.specs.Private.{cells_length, group_count}
+use Rattle.page.specs.Private.{cells_length}
 use Rattle.page.specs.Records.{head_length}
 use Rattle.page.proofs.writing.store_cells.Given as goal
 
 abbrev pub invariant-loop-group : goal.invariant-loop-group
 invariant-loop-group l =
-    (l.group ≤ group_count) × (length l.«record» ≡ length l.initial.«record»)
-    × (l.«record» ≡ paste l.initial.«record» head_length (cell_bytes cell_count cells_length l.marks l.characters) (l.group * group_bytes))
-
-abbrev pub decreases-loop-group : goal.decreases-loop-group
-decreases-loop-group l = group_count - l.group
+    l.«record» ≡ paste l.initial.«record» head_length (cell_bytes cell_count cells_length l.marks l.characters) (l.group * group_bytes)

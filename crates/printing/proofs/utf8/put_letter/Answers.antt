@@ -4,9 +4,10 @@ use Prim.Native.Nat.{ℕ, ◌≤◌}
 use native.Mathlib.Omega.{arith}
 use borrow.Author.Rules.{rules}
 use lib.ListN.{length, length-set}
+use Rattle.texts.specs.Held.{held}
 use Rattle.letters.specs.Sets.{letter_in}
-use Rattle.letters.specs.Utf8.{form_held, most_of_letters, utf8}
-use Rattle.letters.specs.declared.Form.{Form}
+use Rattle.letters.specs.Utf8.{form_held, most_bytes, most_of_letters, utf8}
+use Rattle.texts.specs.declared.Text.{Text}
 use Rattle.printing.proofs.Spelling.{all-stored, stored}
 use Rattle.printing.proofs.utf8.put_letter.Goals as goal
 use Rattle.printing.proofs.utf8.put_letter.Goals.{After-utf8_of-form}
@@ -19,8 +20,8 @@ is_held : (c : After-utf8_of-form) → c.utf8_of-form.result ≡ form_held (utf8
 is_held c = c.utf8_of-form.ensures ∙ ap (λ (letter : ℕ). form_held (utf8 letter)) c.letter_in.ensures
 
 counted : (c : After-utf8_of-form) → c.utf8_of-form.result.used ≡ length (utf8 (letter-of c))
-unfolding form_held
-counted c = ap (λ (form : Form). form.used) (is_held c)
+unfolding held
+counted c = ap (λ (form : Text most_bytes). form.used) (is_held c)
 
 sized : (c : After-utf8_of-form) → (1 ≤ length (utf8 (letter-of c))) × (length (utf8 (letter-of c)) ≤ most_of_letters)
 sized c = c.requires.1 c.args.code (search rules)

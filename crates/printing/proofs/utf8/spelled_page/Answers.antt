@@ -2,51 +2,37 @@
 use mathlib.Core.Path.{◌≡◌, sym, ◌∙◌, ap, subst}
 use mathlib.Core.List.{map}
 use native.Mathlib.Omega.{arith}
-use borrow.Author.Rules.{rules}
-use lib.ListN.{length, take}
+use lib.ListN.{take}
 use lib.Seq.{take_all}
-use Rattle.texts.proofs.Growing.{fits, has_room, is-counted, is_held, none_yet}
-use Rattle.letters.specs.Sets.{letter_in, letter_of, national_codes}
-use Rattle.letters.specs.Utf8.{most_of_letters, utf8_text}
-use Rattle.letters.proofs.National.{set_whole}
+use Rattle.texts.specs.Held.{held}
+use Rattle.letters.specs.Sets.{letter_in, letter_of}
+use Rattle.letters.specs.Utf8.{utf8_text}
 use Rattle.printing.specs.Letters.{utf8_page_size}
 use Rattle.printing.specs.Private.{Spells, spelled_page}
-use Rattle.printing.proofs.Spelling.{one_more, spells}
+use Rattle.printing.proofs.Spelling.{none_yet, one_more, room-left, room-whole, spells}
 use Rattle.printing.proofs.utf8.spelled_page.Goals as goal
 
-pub loop-i-init : goal.loop-i-init
-unfolding utf8_text
-loop-i-init c = (search rules, search rules, c.set_of-set.ensures, none_yet utf8_page_size)
-
-pub slice_bounds-put_letter-end : goal.slice_bounds-put_letter-end
-slice_bounds-put_letter-end c = sym (fits c.loop-i.invariant.3 (omega arith)).0
-
-pub slice_bounds-put_letter-end-in-loop-i : goal.slice_bounds-put_letter-end-in-loop-i
-unfolding national_codes
-slice_bounds-put_letter-end-in-loop-i c =
-    sym (ap length c.loop-i.invariant.2 ∙ set_whole c.args.control)
+pub loop-byte-init : goal.loop-byte-init
+loop-byte-init c = none_yet _ _
 
 pub put_letter-used-requires : goal.put_letter-used-requires
 put_letter-used-requires c =
-    let inv = c.loop-i.invariant in
-    (has_room inv.3 most_of_letters (omega arith), subst Spells (sym inv.2) (spells c.args.control))
+    (room-left _ _ c.loop-byte.invariant c.loop-byte-test.true, subst Spells (sym c.set_of-set.ensures) (spells c.args.control))
 
-pub loop-i-preserved : goal.loop-i-preserved
-loop-i-preserved c =
-    let inv = c.loop-i.invariant in
+pub loop-byte-preserved : goal.loop-byte-preserved
+loop-byte-preserved c =
     let put = c.put_letter-used.ensures in
-    (search rules, inv.1, inv.2, one_more c.set_of-set.result c.args.text inv.3 (search rules) inv.1 put.puts put.code_len_bound)
+    one_more _ _ c.loop-byte.invariant (omega arith) c.told-text put.puts put.code_len_bound
 
-pub returns : goal.returns
+pub returns-clause-value : goal.returns-clause-value
 unfolding spelled_page letter_of
-returns c =
-    let inv = c.loop-i.invariant in
-    let control = c.args.control in
-    let text = c.args.text in
-    let all = take_all c.loop-i.i text (search rules) in
-    let letters : utf8_text (map (letter_in c.set_of-set.result) (take c.loop-i.i text)) ≡ utf8_text (map (letter_of control) text) =
-    (λ i. utf8_text (map (letter_in (inv.2 i)) (all i))) in
-    record {
-      value = rw (c.stands_in-english.ensures, is_held inv.3 (omega arith), is-counted inv.3, letters);
-      text_len = fits inv.3 (omega arith);
-    }
+returns-clause-value c =
+    let text = c.args.text.now in
+    let whole = c.told-text in
+    let all = take_all c.loop-byte.byte-index text (omega arith) in
+    let same : utf8_text (map (letter_in c.set_of-set.result) (take c.loop-byte.byte-index text)) ≡ utf8_text (map (letter_of c.args.control) text) =
+    (λ i. utf8_text (map (letter_in (c.set_of-set.ensures i)) (all i))) in
+    rw (c.stands_in.ensures, c.loop-byte.invariant.is ∙ ap (held utf8_page_size) same)
+
+pub returns-clause-text_len : goal.returns-clause-text_len
+returns-clause-text_len c = room-whole _ _ c.loop-byte.invariant (omega arith)

@@ -1,21 +1,13 @@
 -- `printing::utf8_page` meets its contract: by the printed page's answer, its letters, or zeros.
+use mathlib.Core.Path.{sym, ◌∙◌, ap}
+use Rattle.printing.specs.Pages.{page_paper}
 use Rattle.printing.proofs.Shown.{letters-refused, letters-shown}
 use Rattle.printing.proofs.utf8.utf8_page.Goals as goal
 
-pub returns-in-Refused : goal.returns-in-Refused
-returns-in-Refused c =
-    let printed = c.printed_page-printed in
-    let made = c.refused_utf8_page.ensures in
-    record {
-      result_value = letters-refused printed.result _ _ printed.ensures.result_value c.in-Refused.is _ made.result_value;
-      text_len = made.text_len;
-    }
+pub returns-in-Ok-clause-result_value : goal.returns-in-Ok-clause-result_value
+returns-in-Ok-clause-result_value c =
+    letters-shown _ _ c.in-Ok.text (sym (ap page_paper c.in-Ok.is) ∙ c.printed_page.ensures.result_value) c.spelled_page.ensures.value
 
-pub returns-in-Shown : goal.returns-in-Shown
-returns-in-Shown c =
-    let printed = c.printed_page-printed in
-    let made = c.spelled_page.ensures in
-    record {
-      result_value = letters-shown printed.result _ _ printed.ensures.result_value c.in-Shown.is _ made.value;
-      text_len = made.text_len;
-    }
+pub returns-in-Err-clause-result_value : goal.returns-in-Err-clause-result_value
+returns-in-Err-clause-result_value c =
+    letters-refused _ _ (sym (ap page_paper c.in-Err.is) ∙ c.printed_page.ensures.result_value)

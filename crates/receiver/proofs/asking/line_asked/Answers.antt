@@ -1,16 +1,15 @@
 use mathlib.Core.Path.{sym, ap, ◌∙◌}
 use Rattle.packet.proofs.Whole.{framed_is}
-use Rattle.receiver.specs.Private.{asked_by, line_asked}
+use Rattle.receiver.specs.Private.{asked_by, line_asked, refusal_of}
+use Rattle.receiver.proofs.Asked.{refused_is}
 use Rattle.receiver.proofs.asking.line_asked.Goals as goal
 
-pub returns-in-Packet : goal.returns-in-Packet
+pub returns-in_err-framed_line : goal.returns-in_err-framed_line
 unfolding line_asked asked_by
-returns-in-Packet c = sym (ap asked_by (sym (framed_is _ _ c.framed_line.ensures) ∙ c.in-Packet.is))
+returns-in_err-framed_line c =
+    refused_is _ (refusal_of c.in_err-framed_line.field-0.0) c.from_residual.ensures.1
+    ∙ sym (ap asked_by (sym (framed_is _ _ c.framed_line.ensures) ∙ c.in_err-framed_line.was))
 
-pub returns-in-WrongLength : goal.returns-in-WrongLength
+pub returns : goal.returns
 unfolding line_asked asked_by
-returns-in-WrongLength c = sym (ap asked_by (sym (framed_is _ _ c.framed_line.ensures) ∙ c.in-WrongLength.is))
-
-pub returns-in-WrongFraming : goal.returns-in-WrongFraming
-unfolding line_asked asked_by
-returns-in-WrongFraming c = sym (ap asked_by (sym (framed_is _ _ c.framed_line.ensures) ∙ c.in-WrongFraming.is))
+returns c = sym (ap asked_by (sym (framed_is _ _ c.framed_line.ensures) ∙ c.in_ok-framed_line.was))

@@ -9,6 +9,3 @@ use Rattle.receiver.proofs.mending.mended_control.Given as goal
 abbrev pub invariant-loop-at : goal.invariant-loop-at
 invariant-loop-at l =
     (address_length ≤ l.at) × (l.at ≤ header_length) × (l.mended ≡ how_many_corrected (packet_bytes l.packet 3 (l.at - address_length)))
-
-abbrev pub decreases-loop-at : goal.decreases-loop-at
-decreases-loop-at l = header_length - l.at

@@ -1,78 +1,102 @@
-use mathlib.Core.Path.{refl, sym, ◌∙◌, subst}
-use Prim.Native.Nat.{ℕ, ◌+◌, ◌-◌, ◌≤◌}
+use mathlib.Core.Path.{◌≡◌, refl, sym, ap, ◌∙◌, subst}
+use mathlib.Core.List.{List, ◌++◌}
+use lib.ListN.{length}
+use Prim.Native.Nat.{ℕ, ◌≤◌, min}
 use native.Mathlib.Omega.{arith}
-use Rattle.receiver.specs.Private.{joined}
-use Rattle.receiver.specs.declared.Receiver.{Receiver}
+use Rattle.std.specs.declared.slice.Chunks.{Chunks}
+use Rattle.packet.specs.Lines.{line_length}
 use Rattle.receiver.proofs.Lawful.{our_magazine}
-use Rattle.receiver.proofs.Playing.{turning-ends, turning_starts}
-use Rattle.receiver.proofs.Turns.{AtLine, another_counts, ends_as, ends_with, turn-another, turn_holds, turn_on, turn-ours, turn-refused, turn-seen, turn-sized, turn-stops, turn-whole}
+use Rattle.receiver.proofs.Cut.{Left, further, left_all, left_next, line_cut, line_sized, more_left, none_so_far, so_far}
+use Rattle.receiver.proofs.Playing.{turning-ends, turning_at, turning_starts}
+use Rattle.receiver.proofs.Turns.{AtLine, another_counts, turn-another, turn_holds, turn_on, turn-ours, turn-refused, turn-seen, turn-stops, turn-whole}
 use borrow.Author.Rules.{rules}
 use Rattle.receiver.proofs.recording.play.Goals as goal
 use Rattle.receiver.proofs.recording.play.Goals.{After-line_asked}
 
 -- a turn that has come to its line
 module _ (c : After-line_asked) where
-  abbrev begun : Receiver
-  begun = joined c.args.start c.args.characters.now c.args.marks.now
+  abbrev rest : List ℕ
+  rest = c.loop-line.line-iterator.rest.now
 
-  abbrev size : ℕ
-  size = c.line_size-size.result
+  abbrev line : List ℕ
+  line = c.in-Some.line.now
 
-  abbrev part : ℕ
-  part = c.loop-at.at + size - c.loop-at.at
+  left : Left c.args.recording.now rest
+  left = c.loop-line.invariant.2
 
-  at-line : AtLine c.args.recording.now c.args.«record».now begun c.loop-at.«record» c.loop-at.standing
-      c.loop-at.characters c.loop-at.marks c.loop-at.at c.loop-at.used c.loop-at.mended c.args.start.selection.magazine
-      size part
+  parts : rest ≡ line ++ c.next.new.self.rest.now
+  parts = c.in-Some.ensures.steps.1.0
+
+  size : length line ≡ min line_length (length rest)
+  size = c.in-Some.ensures.steps.1.1 ∙ ap (λ (n : ℕ). min n (length rest)) c.loop-line.invariant.3
+
+  at-line : AtLine c.args.recording.now c.args.«record».now c.args.receiver.now c.loop-line.«record» c.loop-line.receiver (so_far c.args.recording.now rest)
+      c.loop-line.used c.loop-line.mended c.args.receiver.now.selection.magazine line
   at-line =
       record {
-        turning = c.loop-at.invariant.0;
-        same = c.loop-at.invariant.2;
-        more = c.loop-at-test.true;
-        sized = c.line_size-size.ensures;
-        parted = omega arith;
+        turning = c.loop-line.invariant.0;
+        same = c.loop-line.invariant.1;
+        more = more_left left c.in-Some.ensures.steps.1.2;
+        sized = line_sized left line size;
+        cut = line_cut left line _ parts size;
       }
 
-pub loop-at-init : goal.loop-at-init
-loop-at-init c =
+pub loop-line-init : goal.loop-line-init
+loop-line-init c =
     let ready = c.requires in
-    (turning_starts _ _ _ ready.right ready.room, (ready.all_characters, ready.all_marks), refl)
+    let recording = c.args.recording.now in
+    let all : c.into_iter-line-iterator.result.rest.now ≡ recording =
+    ap (λ (cut : Chunks ℕ). cut.rest.now) c.into_iter-line-iterator.ensures.into_iter_gives ∙ c.chunks-line-items.ensures.rest in (
+      turning_at (ap (so_far recording) all ∙ none_so_far recording) (turning_starts _ _ _ ready.right ready.room),
+      refl,
+      subst (Left recording) (sym all) (left_all recording),
+      ap (λ (cut : Chunks ℕ). cut.size) c.into_iter-line-iterator.ensures.into_iter_gives ∙ c.chunks-line-items.ensures.size,
+    )
 
-pub shape_of-record-in-Refused : goal.shape_of-record-in-Refused
-shape_of-record-in-Refused c = let same = c.loop-at.invariant.0.same in search rules
+pub overflow_add-used : goal.overflow_add-used
+overflow_add-used c =
+    let inv = c.loop-line.invariant in
+    let used = inv.0.used_within in
+    let more = more_left inv.2 c.in-Some.ensures.steps.1.2 in
+    search rules
 
-pub returns-in-Refused : goal.returns-in-Refused
-returns-in-Refused c =
-    let line = at-line (goal.at.returns-in-Refused c).After-line_asked in
-    ends_with c.ends.ensures (turn-refused line _ (sym c.line_asked.ensures ∙ c.in-Refused.is))
+pub shape_of-record-in-Err : goal.shape_of-record-in-Err
+shape_of-record-in-Err c = let same = c.loop-line.invariant.0.same in search rules
+
+pub returns-in-Err : goal.returns-in-Err
+returns-in-Err c =
+    let line = at-line (goal.at.returns-in-Err c).After-line_asked in
+    turn-refused line _ (sym c.line_asked.ensures ∙ c.in-Err.is)
 
 pub seen_of-shows-requires : goal.seen_of-shows-requires
 seen_of-shows-requires c =
     let line = at-line (goal.at.seen_of-shows-requires c).After-line_asked in
-    let turn = c.loop-at in
-    let within = our_magazine (joined turn.standing turn.characters turn.marks) (rw turn.invariant.0.right tt) in
-    let ours = subst (λ (m : ℕ). (1 ≤ m) × (m ≤ 8)) turn.invariant.2 within in
+    let turn = c.loop-line in
+    let within = our_magazine turn.receiver (rw turn.invariant.0.right tt) in
+    let ours = subst (λ (m : ℕ). (1 ≤ m) × (m ≤ 8)) turn.invariant.1 within in
     (ours.0, ours.1, turn-whole line (sym c.line_asked.ensures ∙ c.in_default.is) c.packet_of-packet.ensures)
 
 pub mended_address-requires : goal.mended_address-requires
 mended_address-requires c =
     turn-whole (at-line (goal.at.mended_address-requires c).After-line_asked) (sym c.line_asked.ensures ∙ c.in_default.is) c.packet_of-packet.ensures
 
-pub with_line-more-requires : goal.with_line-more-requires
-with_line-more-requires c =
-    let line = at-line (goal.at.with_line-more-requires c).After-line_asked in
+pub with_line-mended-requires : goal.with_line-mended-requires
+with_line-mended-requires c =
+    let line = at-line (goal.at.with_line-mended-requires c).After-line_asked in
     turn_holds line (sym c.line_asked.ensures ∙ c.in_default.is) c.packet_of-packet.ensures c.seen_of-shows.ensures (search rules)
     (c.mended_address.ensures ∙ another_counts _ _ c.in-Another.is)
 
-pub loop-at-preserved-in-Another : goal.loop-at-preserved-in-Another
-loop-at-preserved-in-Another c =
-    let line = at-line (goal.at.loop-at-preserved-in-Another c).After-line_asked in
+pub loop-line-preserved-in-Another : goal.loop-line-preserved-in-Another
+loop-line-preserved-in-Another c =
+    let line = at-line (goal.at.loop-line-preserved-in-Another c).After-line_asked in
     let another = c.in-Another.is in
-    let turn = c.loop-at in
+    let turn = c.loop-line in
     let counts = c.mended_address.ensures ∙ another_counts _ _ another in (
-      turn-another line (sym c.line_asked.ensures ∙ c.in_default.is) c.packet_of-packet.ensures c.seen_of-shows.ensures another counts c.with_line-more.ensures,
+      turning_at (further turn.invariant.2 _ _ c.in-Some.ensures.steps.1.0)
+          (turn-another line (sym c.line_asked.ensures ∙ c.in_default.is) c.packet_of-packet.ensures c.seen_of-shows.ensures another counts c.with_line-mended.ensures),
       turn.invariant.1,
-      turn.invariant.2,
+      left_next turn.invariant.2 _ _ c.in-Some.ensures.steps.1.0,
+      c.in-Some.ensures.steps.0 ∙ turn.invariant.3,
     )
 
 pub mended_bytes-in_line-requires : goal.mended_bytes-in_line-requires
@@ -82,51 +106,43 @@ mended_bytes-in_line-requires c =
 pub follow-done-requires : goal.follow-done-requires
 follow-done-requires c =
     let line = at-line (goal.at.follow-done-requires c).After-line_asked in
-    let ready = c.loop-at.invariant in (
-      record { right = ready.0.right; all_characters = ready.1.0; all_marks = ready.1.1; room = ready.0.room },
+    let ready = c.loop-line.invariant in (
+      record { right = ready.0.right; room = ready.0.room },
       turn-seen line (sym c.line_asked.ensures ∙ c.in_default.is) c.packet_of-packet.ensures c.seen_of-shows.ensures,
     )
 
-pub with_line-more-requires-in-loop-at : goal.with_line-more-requires-in-loop-at
-with_line-more-requires-in-loop-at c =
-    let line = at-line (goal.at.with_line-more-requires-in-loop-at c).After-line_asked in
+pub with_line-mended-requires-in-loop-line : goal.with_line-mended-requires-in-loop-line
+with_line-mended-requires-in-loop-line c =
+    let line = at-line (goal.at.with_line-mended-requires-in-loop-line c).After-line_asked in
     turn_holds line (sym c.line_asked.ensures ∙ c.in_default.is) c.packet_of-packet.ensures c.seen_of-shows.ensures (search rules) c.mended_bytes-in_line.ensures
 
-pub shape_of-record-then-stops : goal.shape_of-record-then-stops
-shape_of-record-then-stops c = let same = c.loop-at.invariant.0.same in search rules
+pub shape_of-record-then-is_some : goal.shape_of-record-then-is_some
+shape_of-record-then-is_some c = let same = c.loop-line.invariant.0.same in search rules
 
-pub returns-then-stops : goal.returns-then-stops
-returns-then-stops c =
-    let line = at-line (goal.at.returns-then-stops c).After-line_asked in
-    ends_with c.ends-then-stops.ensures
-    (turn-stops line (sym c.line_asked.ensures ∙ c.in_default.is) c.packet_of-packet.ensures c.seen_of-shows.ensures c.follow-done.result c.follow-done.ensures
-    c.mended_bytes-in_line.ensures c.with_line-more-in-loop-at.ensures (sym c.stops.ensures ∙ c.if-stops.true) c.answer_of-last.ensures)
+pub returns-then-is_some : goal.returns-then-is_some
+returns-then-is_some c =
+    let line = at-line (goal.at.returns-then-is_some c).After-line_asked in
+    turn-stops line (sym c.line_asked.ensures ∙ c.in_default.is) c.packet_of-packet.ensures c.seen_of-shows.ensures c.follow-done.result c.follow-done.ensures
+    c.mended_bytes-in_line.ensures c.with_line-mended-in-loop-line.ensures (sym c.is_some.ensures ∙ c.if-is_some.true) c.taken_of.ensures
 
-pub loop-at-smaller : goal.loop-at-smaller
-loop-at-smaller c =
-    let more = c.loop-at-test.true in
-    let sized = c.line_size-size.ensures in
-    omega arith
-
-pub loop-at-preserved : goal.loop-at-preserved
-loop-at-preserved c =
-    let line = at-line (goal.at.loop-at-preserved c).After-line_asked in
+pub loop-line-preserved : goal.loop-line-preserved
+loop-line-preserved c =
+    let line = at-line (goal.at.loop-line-preserved c).After-line_asked in
     let fine = sym c.line_asked.ensures ∙ c.in_default.is in
     let following = c.follow-done in
     let counts = c.mended_bytes-in_line.ensures in
-    let sums = c.with_line-more-in-loop-at.ensures in (
-      turn_on line fine c.packet_of-packet.ensures c.seen_of-shows.ensures following.result following.ensures counts sums
-          (sym c.stops.ensures ∙ c.if-stops.false),
-      turn-sized line fine c.packet_of-packet.ensures c.seen_of-shows.ensures following.result following.ensures counts sums
-          c.loop-at.invariant.1,
+    let sums = c.with_line-mended-in-loop-line.ensures in (
+      turning_at (further c.loop-line.invariant.2 _ _ c.in-Some.ensures.steps.1.0)
+          (turn_on line fine c.packet_of-packet.ensures c.seen_of-shows.ensures following.result following.ensures counts sums
+          (sym c.is_some.ensures ∙ c.if-is_some.false)),
       turn-ours line fine c.packet_of-packet.ensures c.seen_of-shows.ensures following.result following.ensures counts sums,
+      left_next c.loop-line.invariant.2 _ _ c.in-Some.ensures.steps.1.0,
+      c.in-Some.ensures.steps.0 ∙ c.loop-line.invariant.3,
     )
-
-pub shape_of-record : goal.shape_of-record
-shape_of-record c = let same = c.loop-at.invariant.0.same in search rules
 
 pub returns : goal.returns
 returns c =
-    let turn = c.loop-at in
-    ends_with c.ends-2.ensures
-    (ends_as turn.standing turn.used turn.mended _ turn.characters turn.marks _ (turning-ends turn.invariant.0 c.loop-at-test.false))
+    let turn = c.loop-line in
+    let ended : length c.args.recording.now ≤ so_far c.args.recording.now turn.line-iterator.rest.now =
+    omega (arith, turn.invariant.2.within, c.in-None.ensures.steps.1.0) in
+    turning-ends turn.invariant.0 ended

@@ -1,10 +1,9 @@
-use Prim.Native.Nat.{◌-◌}
 use lib.ListN.{length}
 use mathlib.Core.Path.{◌≡◌}
 use Rattle.replay.proofs.runs.take_each.Given as goal
 
-abbrev pub invariant-loop-place : goal.invariant-loop-place
-invariant-loop-place g l = length l.initial.«record» ≡ length l.«record»
+abbrev pub invariant-loop-left : goal.invariant-loop-left
+invariant-loop-left g l = length l.initial.«record» ≡ length l.«record»
 
-abbrev pub decreases-loop-place : goal.decreases-loop-place
-decreases-loop-place g l = length l.steps - l.place
+abbrev pub decreases-loop-left : goal.decreases-loop-left
+decreases-loop-left g l = length l.left

@@ -9,16 +9,12 @@ use Rattle.display.proofs.Choice.{not_asked, asked}
 use Rattle.display.proofs.doubling.PageRow.doubles.Goals as goal
 
 pub returns-then-self : goal.returns-then-self
-returns-then-self c =
-    let row = c.before.before.before.before.args.self in
-    not_asked row.below row.counts _ c.if-self.true
+returns-then-self c = not_asked c.args.self.below c.args.self.counts _ c.if-self.true
 
 pub returns : goal.returns
 returns c =
-    let start = c.before.before.before.before.before.before in
-    let row = start.args.self in
-    let codes = start.args.codes.now in
-    let long = start.requires.0 in
+    let row = c.args.self in
+    let long = c.requires.0 in
     let part : row.end - (row.end - columns) ≡ columns = omega arith in
     c.has_double.ensures
-    ∙ (ap (λ (n : ℕ). has_double (take n (drop (row.end - columns) codes))) part ∙ asked row.below row.counts _ c.before.before.if-self.false)
+    ∙ (ap (λ (n : ℕ). has_double (take n (drop (row.end - columns) c.args.codes.now))) part ∙ asked row.below row.counts _ c.if-self.false)

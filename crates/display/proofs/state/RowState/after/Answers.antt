@@ -4,9 +4,4 @@ use Rattle.display.proofs.Codes.{once_after}
 use Rattle.display.proofs.state.RowState.after.Goals as goal
 
 pub returns-then-acts_at_once : goal.returns-then-acts_at_once
-returns-then-acts_at_once c =
-    let asked = c.before in
-    c.passed.ensures ∙ sym (once_after _ _ asked.before.before.requires (sym asked.before.acts_at_once.ensures ∙ asked.if-acts_at_once.true))
-
-pub returns : goal.returns
-returns c = c.after_cell.ensures
+returns-then-acts_at_once c = c.passed.ensures ∙ sym (once_after _ _ c.requires (sym c.if-acts_at_once.ensures))

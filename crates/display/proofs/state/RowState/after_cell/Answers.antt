@@ -7,14 +7,12 @@ use Rattle.display.proofs.state.RowState.after_cell.Goals as goal
 pub returns : goal.returns
 unfolding after_cell
 returns c =
-    let chosen = c.before.before.before.before.before in
-    let begun = chosen.before.before.before.before.before.before in
-    let state = begun.args.self in
+    let state = c.args.self in
     simp (
-      chosen.symbol_if-held.ensures,
-      chosen.before.blank.ensures,
-      chosen.before.before.number_if-foreground.ensures,
-      control-gives state begun.args.code begun.requires,
+      c.choose-2.ensures,
+      c.blank.ensures,
+      c.choose.ensures,
+      control-gives state c.args.code c.requires,
       switched state.mosaics,
       set_on state.flash,
       set_off state.conceal,

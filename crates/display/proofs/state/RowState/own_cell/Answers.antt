@@ -5,6 +5,4 @@ use Rattle.display.proofs.state.RowState.own_cell.Goals as goal
 
 pub returns : goal.returns
 unfolding own_cell
-returns c =
-    let chosen = c.before.before.before.before.before.before in
-    simp (chosen.symbol_if-held.ensures, chosen.before.blank.ensures, chosen.before.before.number_if-background.ensures, chosen.before.before.before.number_if-lit.ensures, set_on, set_off)
+returns c = simp (c.choose-2.ensures, c.blank.ensures, c.choose.ensures, c.choose-lit.ensures, set_on, set_off)
