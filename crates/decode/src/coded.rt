@@ -36,7 +36,7 @@ pub(crate) fn answer_byte(rt: &(impl Print + Eprint), input: &[u8]) {
     cases::put(rt, &answer);
 }
 
-// The form of an answer has the paper's number of a refusal; of a line and of a packet it is said here alone.
+// The form of an answer has the paper's number of a refusal. An error of a line or of a packet has none of its own: the receiver's `Refusal` has.
 pub(crate) fn answer_framing(rt: &(impl Print + Eprint), line: &[u8]) {
     match packet::framed_line(line) {
         Ok(()) => cases::put_byte(rt, 0),

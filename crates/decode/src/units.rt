@@ -22,7 +22,7 @@ fn put_five(rt: &(impl Print + Eprint), bytes: [u8; 3], place: usize, after: usi
     put_place(rt, after);
 }
 
-// The paper's number, which of a field is said here alone, and the place beside 15 and 16.
+// The paper's number, and the place beside 15 and 16. The lister says the same numbers, each in a line of its own.
 fn put_refusal(rt: &(impl Print + Eprint), refusal: FieldError) {
     match refusal {
         FieldError::NoField => put_five(rt, [14, 0, 0], 0, 0),
