@@ -2,7 +2,7 @@
 // output, as soon as the closing line has come; the counts at the end, complaints and hints go to standard error.
 #![tactic(auto)]
 
-ghost use Rattle.std.specs.Prelude.{◌≡◌, ◌+◌, ◌≤◌, ◌<◌, length, take, drop, unwrap_or, IfOk};
+ghost use Rattle.std.specs.Prelude.{◌≡◌, ◌+◌, ◌≤◌, ◌<◌, false, length, take, drop, IfOk};
 ghost use Rattle.page.specs.Records.{record_length};
 ghost use Rattle.announcing.specs.Said.{said};
 ghost use Rattle.receive.specs.Feeding.{Carried, Comes, Feeds, Kept, Turned, chunk_size, fed_from};
@@ -52,27 +52,24 @@ fn write_said(
     console::say(rt, text)
 }
 
-// Enters some lines, and says what closes.
-fn feed(rt: &(impl Print + Eprint), state: State, lines: &[u8]) -> Result<State, Failed>
-    requires { (length state.«record» ≡ record_length) × (length lines.now ≤ chunk_size) }
-    ensures feeds { IfOk result (λ after. Feeds (said (fed_from state) lines.now) after) }
-    ensures record_len { IfOk result (λ after. length after.«record» ≡ record_length) }
+// Enters some lines, and says what closes. The state is that after the lines also where the write fails.
+fn feed(rt: &(impl Print + Eprint), state: &mut State, lines: &[u8]) -> Result<(), Failed>
+    requires { (length state.old.«record» ≡ record_length) × (length lines.now ≤ chunk_size) }
+    ensures feeds { Feeds (said (fed_from state.old) lines.now) state.new }
+    ensures record_len { length state.new.«record» ≡ record_length }
 {
-    let mut record = state.record;
+    let before = *state;
     let mut room = [0u8; ROOM];
     let announced = announcing::announce(
-        state.receiver,
-        state.watch,
+        before.receiver,
+        before.watch,
         lines,
-        &mut record,
+        &mut state.record,
         &mut room,
     );
-    write_said(rt, &room[..announced.length], state, lines)?;
-    Ok(State {
-        receiver: announced.receiver,
-        watch: announced.watch,
-        record,
-    })
+    state.receiver = announced.receiver;
+    state.watch = announced.watch;
+    write_said(rt, &room[..announced.length], before, lines)
 }
 
 // Moves so many bytes from a place to the chunk's start: the part of a line whose rest is to come.
@@ -83,59 +80,60 @@ fn carry(chunk: &mut [u8], from: usize, count: usize)
     chunk.copy_within(from..from + count, 0);
 }
 
-// Feeds the whole lines among the chunk's first bytes, and carries the part behind them over.
+// Feeds the whole lines among the chunk's first bytes, and carries the part behind them over, also where the write fails.
 fn feed_whole(
     rt: &(impl Print + Eprint),
-    state: State,
+    turn: &mut Turn,
     chunk: &mut [u8],
     full: usize,
-) -> Result<Turn, Failed>
-    requires { Kept state chunk.old × (full ≤ chunk_size) }
-    ensures turned { IfOk result (λ turn. Turned state (take full chunk.old) turn chunk.new) }
-    ensures carried { IfOk result (λ turn. Carried turn chunk.new) }
+) -> Result<(), Failed>
+    requires { Kept turn.old.state chunk.old × (full ≤ chunk_size) }
+    ensures turned { Turned turn.old.state (take full chunk.old) turn.new chunk.new }
+    ensures carried { Carried turn.new chunk.new }
 {
     let part = full % LINE_LENGTH;
     let whole = full - part;
-    let after = feed(rt, state, &chunk[..whole])?;
+    let fed = feed(rt, &mut turn.state, &chunk[..whole]);
     carry(chunk, whole, part);
-    Ok(Turn { state: after, part })
+    turn.part = part;
+    fed
 }
 
-// Reads some bytes behind the part of a line that is there, and feeds the whole lines; none where the input ended or failed. Nothing of the part is lost: what is
-// fed and carried begins with it.
+// Reads some bytes behind the part of a line that is there, and feeds the whole lines; false where the input ended or failed, and the turn is then as
+// it was. Nothing of the part is lost: what is fed and carried begins with it.
 fn one_turn(
     rt: &(impl Input + Print + Eprint),
-    turn: Turn,
+    turn: &mut Turn,
     chunk: &mut [u8],
-) -> Result<Option<Turn>, Failed>
-    requires { Carried turn chunk.old }
-    ensures comes { IfOk result (λ next. Comes turn.state (take turn.part chunk.old) (unwrap_or next turn) chunk.new) }
-    ensures carried { IfOk result (λ next. Carried (unwrap_or next turn) chunk.new) }
+) -> Result<bool, Failed>
+    requires { Carried turn.old chunk.old }
+    ensures comes { Comes turn.old.state (take turn.old.part chunk.old) turn.new chunk.new }
+    ensures carried { Carried turn.new chunk.new }
+    ensures ended { IfOk result (λ more. more ≡ false → turn.new ≡ turn.old) }
 {
     let Ok(more) = console::read_behind(rt, chunk, turn.part) else {
-        return Ok(None);
+        return Ok(false);
     };
-    let next = feed_whole(rt, turn.state, chunk, turn.part + more)?;
-    Ok(Some(next))
+    let full = turn.part + more;
+    feed_whole(rt, turn, chunk, full)?;
+    Ok(true)
 }
 
 // Reads and feeds until the input ends or fails, or a write fails. There are more turns than any recording has.
 fn read_lines(
     rt: &(impl Input + Print + Eprint),
-    state: State,
+    turn: &mut Turn,
     chunk: &mut [u8],
-) -> Result<Turn, Failed>
-    requires { Kept state chunk.old }
-    ensures { IfOk result (λ turn. Carried turn chunk.new) }
+) -> Result<(), Failed>
+    requires { Carried turn.old chunk.old }
+    ensures { Carried turn.new chunk.new }
 {
-    let mut turn = Turn { state, part: 0 };
     for _ in 0..u64::MAX {
-        let Some(next) = one_turn(rt, turn, chunk)? else {
-            return Ok(turn);
-        };
-        turn = next;
+        if !one_turn(rt, turn, chunk)? {
+            return Ok(());
+        }
     }
-    Ok(turn)
+    Ok(())
 }
 
 // All of a recording, and what is said when there are no more lines. A write that fails ends it at once.
@@ -149,10 +147,17 @@ fn receive(
         watch: Watch::new(),
         record: [0u8; RECORD_LENGTH],
     };
+    let mut turn = Turn { state, part: 0 };
     let mut chunk = [0u8; CHUNK];
-    let turn = read_lines(rt, state, &mut chunk)?;
-    let last = feed(rt, turn.state, &chunk[..turn.part])?;
-    ending::complain_at_end(rt, last.watch, last.receiver.open, turn.part, argument);
+    read_lines(rt, &mut turn, &mut chunk)?;
+    feed(rt, &mut turn.state, &chunk[..turn.part])?;
+    ending::complain_at_end(
+        rt,
+        turn.state.watch,
+        turn.state.receiver.open,
+        turn.part,
+        argument,
+    );
     Ok(())
 }
 

@@ -19,10 +19,10 @@ module _ (g : Over) (c : After-announce-announced g) where
   size : length room ≡ lines_at_once * longest
   size = length-replicate {A = ℕ} (lines_at_once * longest) 0
 
-  all : SaysAs (fed_from c.args.state) c.args.lines.now c.announce-announced.result c.announce-announced.new.«record» room c.announce-announced.new.room
+  all : SaysAs (fed_from c.args.state.now) c.args.lines.now c.announce-announced.result c.announce-announced.new.«record» room c.announce-announced.new.room
   all = all_said c.args.lines.now room size c.requires.1 c.announce-announced.ensures
 
-  first : take c.announce-announced.result.length c.announce-announced.new.room ≡ (said (fed_from c.args.state) c.args.lines.now).text
+  first : take c.announce-announced.result.length c.announce-announced.new.room ≡ (said (fed_from c.args.state.now) c.args.lines.now).text
   first = text_first c.args.lines.now room size c.requires.1 c.announce-announced.ensures
 
   within : c.announce-announced.result.length ≤ length c.announce-announced.new.room

@@ -8,7 +8,7 @@ pub returns : goal.returns
 returns g c =
     let size = c.requires.0.1 in
     let fits = c.requires.1 in
-    let fed = c.in_ok-after.ensures in record {
-      turned = turned c.args.chunk.now c.args.full (omega arith) c.args.state c.in_ok-after.after c.carry.new.chunk fed.feeds c.carry.ensures;
-      carried = ((fed.record_len, c.carry.auto.chunk ∙ size), omega arith);
+    let fed = c.feed-fed in record {
+      turned = turned c.args.chunk.now c.args.full (omega arith) c.args.turn.now.state fed.new.state c.carry.new.chunk fed.ensures.feeds c.carry.ensures;
+      carried = ((fed.ensures.record_len, c.carry.auto.chunk ∙ size), omega arith);
     }
