@@ -75,6 +75,11 @@ module _ (state : RowState) (code : ℕ) (high : 0x20 ≤ code) where
   pub printed-next : next state code ≡ passed state (held_after state code) code
   printed-next = rw (← next_is state code, printed-own, printed-after)
 
+  -- so that the state is left but for these two
+  pub printed-passed : {after : RowState} → after ≡ next state code → passed state after.held code ≡ next state code
+  unfolding passed
+  printed-passed e = rw (e, printed-next) refl
+
 apart : (a b : Bool) → T (not (a && b)) → a ≡ true → b ≡ false
 apart true true t e = absurd t
 apart true false t e = refl

@@ -13,6 +13,8 @@ use Rattle.display.specs.declared.Cell.{Cell}
 use Rattle.display.specs.declared.NotAPage.{NotAPage}
 use Rattle.display.specs.contracts.page_of as page_of_law
 use Rattle.display.proofs.page_of.Reads as page-of-reads
+use Rattle.display.specs.contracts.zero_cells as zeros
+use Rattle.display.proofs.zero_cells.Reads as zeros-reads
 
 -- the answer, read back from the paper's number and what stands beside it
 abbrev pub answer_back : {A : Type 0} → math.Option ℕ → A → Result A NotAPage
@@ -29,3 +31,6 @@ page_back_law (Err refusal) = refl
 
 pub page_of_unique : Unique page_of_law.ended page-of-reads.Post
 page_of_unique κs a r r' ws ws' p q = (told_apart displayed_paper page_back page_back_law r r' (p ∙ sym q), refl)
+
+pub zero_cells_unique : Unique zeros.ended zeros-reads.Post
+zero_cells_unique κs a r r' ws ws' p q = (p ∙ sym q, refl)

@@ -1,4 +1,4 @@
--- The way down a page: what is known at each cell, and that it is known at the next one.
+-- The way down a page: what is known of each row and at each of its cells, and that it is known of the next one.
 use mathlib.Core.Path.{◌≡◌, refl, ◌∙◌, sym, ap}
 use mathlib.Core.Bool.{Bool, true, false, false≢true}
 use mathlib.Core.List.{List, [], ◌∷◌, ◌++◌, map}
@@ -34,27 +34,27 @@ use Rattle.display.proofs.Steps.{along_cons}
 abbrev read_codes : List ℕ → ℕ → List ℕ
 read_codes codes number = map (read_as (may_double number)) (row_codes codes number)
 
--- from this column on, the state gives the row's cells, where the row is one alone
+-- from this place on, the state gives the row's cells, where the row is one alone
 abbrev pub Ahead : List ℕ → ℕ → ℕ → RowState → Type 0
-Ahead codes number column state =
-    below_doubled codes number ≡ false → along state (drop column (read_codes codes number)) ≡ drop column (row_shown codes number)
+Ahead codes number place state =
+    below_doubled codes number ≡ false
+    → along state (drop (place - columns * number) (read_codes codes number)) ≡ drop (place - columns * number) (row_shown codes number)
 
 -- the cells before this place are the page's
 pub record Filled (codes : List ℕ) (place : ℕ) (cells : List Cell) : Type 0 where
   pub size : length cells ≡ cell_count
   pub done : take place cells ≡ take place (page_cells codes)
 
--- the place's row by its number, its column, and what the way down holds of them
-pub record Reached (codes : List ℕ) (row : PageRow) (state : RowState) (place : ℕ) (cells : List Cell) : Type 0 where
-  pub number : ℕ
-  pub column : ℕ
-  pub here : place ≡ columns * number + column
-  pub inside : column < columns
+-- the row of a number, and what the way down holds of it
+pub record Numbered (codes : List ℕ) (row : PageRow) (number : ℕ) : Type 0 where
   pub end : row.end ≡ columns * (number + 1)
   pub counts : row.counts ≡ may_double number
   pub below : row.below ≡ below_doubled codes number
+
+-- a place in a row that is one alone, and what the way down holds at it
+pub record Reached (codes : List ℕ) (number : ℕ) (state : RowState) (place : ℕ) (cells : List Cell) : Type 0 where
   pub filled : Filled codes place cells
-  pub ahead : Ahead codes number column state
+  pub ahead : Ahead codes number place state
 
 heads : {A : Type 0} {x y : A} {xs ys : List A} → ◌≡◌ {A = List A} (x ∷ xs) (y ∷ ys) → x ≡ y
 heads {x = x} e = ap (λ xs. get_or xs 0 x) e
@@ -62,25 +62,46 @@ heads {x = x} e = ap (λ xs. get_or xs 0 x) e
 tails : {A : Type 0} {x y : A} {xs ys : List A} → ◌≡◌ {A = List A} (x ∷ xs) (y ∷ ys) → xs ≡ ys
 tails e = ap (drop 1) e
 
+-- of what is equal
+pub filled_as : {codes : List ℕ} {place : ℕ} {cells cells' : List Cell} → Filled codes place cells → cells' ≡ cells → Filled codes place cells'
+filled_as filled e = rw e filled
+
+pub filled_to : {codes : List ℕ} {place place' : ℕ} {cells : List Cell} → Filled codes place cells → place' ≡ place → Filled codes place' cells
+filled_to filled e = rw e filled
+
 -- ---- at the start
 
-row_start : (codes : List ℕ) (number : ℕ) → Ahead codes number 0 start
-row_start codes number free = sym (shown_alone codes number free ∙ alone_is codes number)
-
-pub begun : (codes : List ℕ) (cells : List Cell) → length cells ≡ cell_count → Reached codes first_row start 0 cells
+pub begun : (codes : List ℕ) (cells : List Cell) → length cells ≡ cell_count → Numbered codes first_row 0 × Filled codes 0 cells
 unfolding may_double
-begun codes cells size =
-    record {
-      number = 0;
-      column = 0;
-      here = refl;
-      inside = omega arith;
-      end = refl;
-      counts = refl;
-      below = refl;
-      filled = record { size = size; done = refl };
-      ahead = row_start codes 0;
-    }
+begun codes cells size = (record { end = refl; counts = refl; below = refl }, record { size = size; done = refl })
+
+-- ---- a row
+
+module _ {codes : List ℕ} {row : PageRow} {number : ℕ} (known : Numbered codes row number) where
+  pub first_place : row.end - columns ≡ columns * number
+  first_place = let end = known.end in omega arith
+
+  -- whether the next row lies below a doubled one
+  below_next : doubles row codes ≡ below_doubled codes (number + 1)
+  unfolding row_codes
+  below_next = rw (known.counts, known.below, first_place) (doubled_is codes number ∙ ap (below_doubled codes) (sym (add-one number)))
+
+  -- the next row
+  pub next_row_here : Numbered codes (next_row row codes) (number + 1)
+  next_row_here =
+      let end = known.end in
+      record {
+        end = omega arith;
+        counts = ap may_double (let at : row.end / columns ≡ number + 1 = omega arith in at);
+        below = below_next;
+      }
+
+  -- at the first of the row's cells
+  pub row_start : {cells : List Cell} → Filled codes (columns * number) cells → {state : RowState} → state ≡ start
+      → Reached codes number state (row.end - columns) cells
+  row_start filled from =
+      let none : row.end - columns - columns * number ≡ 0 = (let first = first_place in omega arith) in
+      record { filled = filled_to filled first_place; ahead = λ free. rw (none, from) (sym (shown_alone codes number free ∙ alone_is codes number)) }
 
 -- ---- a cell
 
@@ -104,151 +125,110 @@ under_at codes full (suc above) column h k e d place here =
     ∙ (sym (get_d_map under (row_alone codes above) column zero_cell d (omega arith))
     ∙ ap (λ (cells : List Cell). get_or cells column zero_cell) (sym (shown_under codes above e))))
 
-module _ (codes : List ℕ) (full : length codes ≡ cell_count) {row : PageRow} {state : RowState} {place : ℕ} {cells : List Cell}
-    (known : Reached codes row state place cells) (h : place < cell_count) where
-  row_inside : known.number < rows
-  row_inside = let here = known.here in omega arith
+-- a place in a row, with the cells before it filled
+module _ {codes : List ℕ} (full : length codes ≡ cell_count) {row : PageRow} {number : ℕ} (known : Numbered codes row number) (last : number < rows)
+    {place : ℕ} (from : row.end - columns ≤ place) (before : place < row.end) {cells : List Cell} (filled : Filled codes place cells) where
+  abbrev column : ℕ
+  column = place - columns * number
 
-  in-codes : known.column < length (read_codes codes known.number)
+  here : place ≡ columns * number + column
+  here = let end = known.end in omega arith
+
+  inside : column < columns
+  inside = let end = known.end in omega arith
+
+  one_more : place + 1 - columns * number ≡ suc column
+  one_more = let end = known.end in omega arith
+
+  in-codes : column < length (read_codes codes number)
   in-codes =
-      let long = length-map (row_codes codes known.number) (read_as (may_double known.number)) in
-      let forty = codes-forty codes full known.number row_inside in
-      let inside = known.inside in
+      let long = length-map (row_codes codes number) (read_as (may_double number)) in
+      let forty = codes-forty codes full number last in
+      let short = inside in
       omega arith
 
-  in_row : known.column < length (row_shown codes known.number)
+  in_row : column < length (row_shown codes number)
   in_row =
-      let forty = shown-forty codes full known.number row_inside in
-      let inside = known.inside in
+      let forty = shown-forty codes full number last in
+      let short = inside in
       omega arith
 
   -- the cell that is due here
   abbrev due : Cell
-  due = get_or (row_shown codes known.number) known.column zero_cell
+  due = get_or (row_shown codes number) column zero_cell
 
   -- the code at this place, as it is read on this row
   abbrev code_read : ℕ
   code_read = read_as row.counts (get_or codes place 0)
 
-  code_here : get_or (read_codes codes known.number) known.column 0 ≡ code_read
+  code_here : get_or (read_codes codes number) column 0 ≡ code_read
   unfolding row_codes
   code_here =
-      let read = read_as (may_double known.number) in
-      let forty = codes-forty codes full known.number row_inside in
-      let inside = known.inside in
-      get_d_map read (row_codes codes known.number) known.column 0 0 (omega arith)
-      ∙ (ap read (get_d_part codes (columns * known.number) columns known.column 0 inside ∙ ap (λ (n : ℕ). get_or codes n 0) (sym known.here))
+      let read = read_as (may_double number) in
+      let forty = codes-forty codes full number last in
+      let short = inside in
+      get_d_map read (row_codes codes number) column 0 0 (omega arith)
+      ∙ (ap read (get_d_part codes (columns * number) columns column 0 inside ∙ ap (λ (n : ℕ). get_or codes n 0) (sym here))
       ∙ ap (λ (counts : Bool). read_as counts (get_or codes place 0)) (sym known.counts))
 
   -- the cell of a row that lies below none, and what is then ahead
-  module _ (free : row.below ≡ false) where
-    one_on : cell_at state code_read ∷ along (next state code_read) (drop (known.column + 1) (read_codes codes known.number))
-        ≡ due ∷ drop (known.column + 1) (row_shown codes known.number)
+  module _ (free : row.below ≡ false) (state : RowState) (ahead : Ahead codes number place state) where
+    one_on : cell_at state code_read ∷ along (next state code_read) (drop (suc column) (read_codes codes number)) ≡ due ∷ drop (suc column) (row_shown codes number)
     one_on =
-        let more = drop-cons (read_codes codes known.number) known.column 0 in-codes in
-        let behind = drop (suc known.column) (read_codes codes known.number) in
-        let shown = drop-cons (row_shown codes known.number) known.column zero_cell in_row in
-        rw (add-one known.column)
-        (sym (ap (along state) (more ∙ ap (λ (n : ℕ). n ∷ behind) code_here) ∙ along_cons state code_read behind)
-        ∙ (known.ahead (sym known.below ∙ free) ∙ shown))
+        let more = drop-cons (read_codes codes number) column 0 in-codes in
+        let behind = drop (suc column) (read_codes codes number) in
+        let shown = drop-cons (row_shown codes number) column zero_cell in_row in
+        sym (ap (along state) (more ∙ ap (λ (n : ℕ). n ∷ behind) code_here) ∙ along_cons state code_read behind) ∙ (ahead (sym known.below ∙ free) ∙ shown)
 
     pub cell-alone : cell_at state code_read ≡ due
     cell-alone = heads one_on
 
-    pub ahead-alone : Ahead codes known.number (known.column + 1) (next state code_read)
-    ahead-alone f = tails one_on
+    pub ahead-alone : Ahead codes number (place + 1) (next state code_read)
+    ahead-alone f = rw one_more (tails one_on)
 
-  -- the cell of a row that lies below one, from the cell above it, and nothing is then ahead
+  -- the cell of a row that lies below one, from the cell above it
   module _ (e : row.below ≡ true) where
     pub above-there : columns ≤ place
     above-there =
-        let lower = below_inside codes known.number (sym known.below ∙ e) in
-        let here = known.here in
+        let lower = below_inside codes number (sym known.below ∙ e) in
+        let at = here in
         omega arith
 
     pub cell-under : (d : Cell) → under (get_or cells (place - columns) d) ≡ due
     cell-under d =
-        let before : place - columns < place = (let there = above-there in omega arith) in
-        let stored = ap (λ (done : List Cell). get_or done (place - columns) d) known.filled.done in
-        ap under (sym (get_or-take place cells (place - columns) d before) ∙ (stored ∙ get_or-take place (page_cells codes) (place - columns) d before))
-        ∙ under_at codes full known.number known.column row_inside known.inside (sym known.below ∙ e) d place known.here
-
-    pub ahead-under : (after : RowState) → Ahead codes known.number (known.column + 1) after
-    ahead-under after free = absurd (false≢true (sym free ∙ (sym known.below ∙ e)))
+        let less : place - columns < place = (let there = above-there in omega arith) in
+        let stored = ap (λ (done : List Cell). get_or done (place - columns) d) filled.done in
+        ap under (sym (get_or-take place cells (place - columns) d less) ∙ (stored ∙ get_or-take place (page_cells codes) (place - columns) d less))
+        ∙ under_at codes full number column last inside (sym known.below ∙ e) d place here
 
   -- the cell that is due, stored
-  pub stored : (cell : Cell) → cell ≡ due → Filled codes (place + 1) (set cells place cell)
-  stored cell is =
-      let size = known.filled.size in
+  pub stored : {cell : Cell} → cell ≡ due → Filled codes (place + 1) (set cells place cell)
+  stored {cell = cell} is =
+      let size = filled.size in
+      let end = known.end in
       let long = page-length codes full in
-      let placed = cell-at codes full known.column known.inside zero_cell known.number row_inside in
-      let here = ap (λ (n : ℕ). get_or (page_cells codes) n zero_cell) known.here ∙ placed in
+      let placed = cell-at codes full column inside zero_cell number last in
+      let same = ap (λ (n : ℕ). get_or (page_cells codes) n zero_cell) here ∙ placed in
       record {
         size = length-set cells place cell ∙ size;
         done =
             rw (add-one place)
             (take-suc-set cells place cell (omega arith)
-            ∙ (ap (λ (before : List Cell). before ++ (cell ∷ [])) known.filled.done
-            ∙ (ap (λ (last : Cell). take place (page_cells codes) ++ (last ∷ [])) (is ∙ sym here) ∙ sym (take-suc (page_cells codes) place zero_cell (omega arith)))));
+            ∙ (ap (λ (done : List Cell). done ++ (cell ∷ [])) filled.done
+            ∙ (ap (λ (end : Cell). take place (page_cells codes) ++ (end ∷ [])) (is ∙ sym same) ∙ sym (take-suc (page_cells codes) place zero_cell (omega arith)))));
       }
 
-  -- ---- the next cell
-
-  module _ {cells' : List Cell} (filled : Filled codes (place + 1) cells') where
-    -- in the same row
-    pub next-column : {after : RowState} → Ahead codes known.number (known.column + 1) after → (place + 1 ≡ row.end → ⊥)
-        → Reached codes row after (place + 1) cells'
-    next-column ahead more =
-        let here = known.here in
-        let inside = known.inside in
-        let end = known.end in
-        record {
-          number = known.number;
-          column = known.column + 1;
-          here = omega arith;
-          inside = omega (arith, more);
-          end = end;
-          counts = known.counts;
-          below = known.below;
-          filled = filled;
-          ahead = ahead;
-        }
-
-    -- whether the next row lies below a doubled one
-    below_next : doubles row codes ≡ below_doubled codes (known.number + 1)
-    unfolding row_codes
-    below_next =
-        let end = known.end in
-        let from : row.end - columns ≡ columns * known.number = omega arith in
-        rw (known.counts, known.below, from) (doubled_is codes known.number ∙ ap (below_doubled codes) (sym (add-one known.number)))
-
-    -- the first of the next row
-    pub next_row_here : place + 1 ≡ row.end → Reached codes (next_row row codes) start (place + 1) cells'
-    next_row_here last =
-        let here = known.here in
-        let inside = known.inside in
-        let end = known.end in
-        record {
-          number = known.number + 1;
-          column = 0;
-          here = omega arith;
-          inside = omega arith;
-          end = omega arith;
-          counts = ap may_double (let at : row.end / columns ≡ known.number + 1 = omega arith in at);
-          below = below_next;
-          filled = filled;
-          ahead = row_start codes (known.number + 1);
-        }
+  -- the next place of a row that lies below none, once the cell that is due is stored
+  pub next-column : row.below ≡ false → (state : RowState) → Ahead codes number place state
+      → {cell : Cell} {after : RowState} → cell ≡ cell_at state code_read → after ≡ next state code_read
+      → Reached codes number after (place + 1) (set cells place cell)
+  next-column free state ahead shown then =
+      record { filled = stored (shown ∙ cell-alone free state ahead); ahead = λ f. rw then (ahead-alone free state ahead f) }
 
 -- ---- at the end
 
-pub at_end : (codes : List ℕ) → length codes ≡ cell_count → {row : PageRow} {state : RowState} {place : ℕ} {cells : List Cell}
-    → Reached codes row state place cells → cell_count ≤ place → cells ≡ page_cells codes
-at_end codes full {place = place} {cells = cells} known all =
+pub at_end : (codes : List ℕ) → length codes ≡ cell_count → {place : ℕ} {cells : List Cell} → Filled codes place cells → cell_count ≤ place → cells ≡ page_cells codes
+at_end codes full {place = place} {cells = cells} filled all =
     let long = page-length codes full in
-    let size = known.filled.size in
-    sym (take_all place cells (omega arith)) ∙ (known.filled.done ∙ take_all place (page_cells codes) (omega arith))
-
--- the same, of what is equal
-pub filled_as : {codes : List ℕ} {place : ℕ} {cells cells' : List Cell} → Filled codes place cells → cells' ≡ cells → Filled codes place cells'
-filled_as filled e = rw e filled
+    let size = filled.size in
+    sym (take_all place cells (omega arith)) ∙ (filled.done ∙ take_all place (page_cells codes) (omega arith))

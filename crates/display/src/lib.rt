@@ -8,7 +8,7 @@ ghost use Rattle.std.specs.Prelude.{◌≡◌, true};
 ghost use Rattle.display.specs.Pages.{displayed, displayed_paper, is_page, page_cells, zero_cells};
 
 use doubling::PageRow;
-use grid::{CELLS, COLUMNS};
+use grid::{CELLS, COLUMNS, ROWS};
 use state::RowState;
 
 // The highest code.
@@ -63,8 +63,9 @@ fn is_page(codes: &[u8]) -> bool
     !high
 }
 
+// The cells that stand beside a refusal, all zeros.
 #[tactic(auto, unfolding(crate::specs::Pages::zero_cells))]
-fn zero_cells() -> [Cell; CELLS]
+pub fn zero_cells() -> [Cell; CELLS]
     ensures { result ≡ zero_cells }
 {
     let zero = Cell {
@@ -80,31 +81,38 @@ fn zero_cells() -> [Cell; CELLS]
 }
 
 // The cells of a page, one step for each, with no copy for a row. A row below a doubled one is made from the cells above it.
-// Control codes and printed codes each store their own cell, so that little is moved where the branches meet.
+// In any other row printed codes, up to the next control code, have a loop of their own: of the state they change what is held and the code before, and the rest
+// stands still in it. Control codes and printed codes each store their own cell, so that little is moved where the branches meet.
 fn fill(cells: &mut [Cell; CELLS], codes: &[u8])
     requires { is_page codes.now ≡ true }
     ensures { cells.new ≡ page_cells codes.now }
 {
     let mut row = PageRow::first();
-    let mut state = RowState::start();
-    for place in 0..CELLS {
-        let code = codes[place];
+    for _ in 0..ROWS {
         if row.below {
-            cells[place] = doubling::under(cells[place - COLUMNS]);
-        } else if code < FIRST_PRINTED {
-            let read = doubling::read_as(row.counts, code);
-            let own = state.own(read);
-            cells[place] = own.cell(own.shown_control());
-            state = own.after(read);
+            for place in row.end - COLUMNS..row.end {
+                cells[place] = doubling::under(cells[place - COLUMNS]);
+            }
         } else {
-            let step = state.printed(code);
-            cells[place] = step.cell;
-            state = step.next;
+            let mut state = RowState::start();
+            let mut place = row.end - COLUMNS;
+            'cells: while place < row.end {
+                'printed: while place < row.end && codes[place] >= FIRST_PRINTED {
+                    let step = state.printed(codes[place]);
+                    cells[place] = step.cell;
+                    state = state.passed(step.next.held, codes[place]);
+                    place += 1;
+                }
+                if place < row.end {
+                    let read = doubling::read_as(row.counts, codes[place]);
+                    let own = state.own(read);
+                    cells[place] = own.cell(own.shown_control());
+                    state = own.after(read);
+                    place += 1;
+                }
+            }
         }
-        if place + 1 == row.end {
-            row = row.next(codes);
-            state = RowState::start();
-        }
+        row = row.next(codes);
     }
 }
 

@@ -193,7 +193,7 @@ impl RowState {
 
     // The state after a code that has no effects after its cell: it changes what is held at most.
     #[tactic(auto, unfolding(crate::specs::Private::passed))]
-    fn passed(self, held: Symbol, code: u8) -> RowState
+    pub(crate) fn passed(self, held: Symbol, code: u8) -> RowState
         ensures { result ≡ passed self held code }
     {
         RowState {
