@@ -1,6 +1,4 @@
 -- What was sent this time, cell by cell; and rows from earlier, mark by mark.
-use Rattle.std.specs.Prelude.{Result, Ok, Err}
-use Rattle.std.specs.Result.{result_unwrap_or}
 use mathlib.Core.Path.{◌≡◌, refl, sym, ◌∙◌, ap}
 use mathlib.Core.Bool.{Bool}
 use mathlib.Core.List.{List, [], ◌∷◌, zip_with}
@@ -15,11 +13,9 @@ use Rattle.laws.proofs.Bools.{both_left, both_right, passed}
 use Rattle.laws.proofs.Keeps.{both, chosen}
 use Rattle.grid.specs.Grid.{cell_count}
 use Rattle.page.specs.Lawful.{is_fresh, space}
-use Rattle.page.specs.Reading.{page_given, page_read, zero_page}
+use Rattle.page.specs.Reading.{page_read}
 use Rattle.page.specs.Records.{character_width}
 use Rattle.page.specs.declared.Cells.{Cells}
-use Rattle.page.specs.declared.Page.{Page}
-use Rattle.page.specs.declared.ReadError.{ReadError}
 use Rattle.printing.proofs.Read.{characters_read, marks_read, page_of_law}
 use Rattle.announcing.specs.Private.{Printable, Whole}
 use Rattle.announcing.specs.Told.{fresh_characters, sent_now}
@@ -85,10 +81,3 @@ printable_read bytes =
           page_of_law (fresh_characters cells)
           (fresh-length cells whole, passed _ (fresh_fit cells.characters cells.marks (rw characters.1 tt)));
     }
-
--- ---- the page of an answer, or of zeros
-
-pub given_or : (answer : Result Page ReadError) → result_unwrap_or answer zero_page ≡ page_given answer
-unfolding page_given
-given_or (Ok page) = refl
-given_or (Err error) = refl

@@ -19,6 +19,8 @@ use Rattle.packet.specs.contracts.message_at as message-at
 use Rattle.packet.proofs.message_at.Reads as message-at-reads
 use Rattle.packet.specs.contracts.packet_of as packet-of
 use Rattle.packet.proofs.packet_of.Reads as packet-of-reads
+use Rattle.packet.specs.contracts.text_or_zeros as or-zeros
+use Rattle.packet.proofs.text_or_zeros.Reads as or-zeros-reads
 use Rattle.packet.specs.contracts.text_of as text_of
 use Rattle.packet.proofs.text_of.Reads as text-of-reads
 use Rattle.packet.specs.contracts.writing.address_bytes as address-bytes
@@ -56,6 +58,9 @@ header_of_unique κs a r r' ws ws' p q = (header_read_is r r' (p ∙ sym q), ref
 
 pub text_of_unique : Unique text_of.ended text-of-reads.Post
 text_of_unique κs a r r' ws ws' p q = (text_read_is r r' (p.0 ∙ sym q.0) (p.1 ∙ sym q.1), refl)
+
+pub text_or_zeros_unique : Unique or-zeros.ended or-zeros-reads.Post
+text_or_zeros_unique κs a r r' ws ws' p q = (p ∙ sym q, refl)
 
 -- ---- what is sent
 

@@ -223,3 +223,10 @@ pub fn text_of(packet: &[u8]) -> Result<[u8; COLUMNS], WrongLength>
     }
     Ok(bytes)
 }
+
+// The bytes that were read, or the zeros that stand beside a refusal.
+pub fn text_or_zeros(read: Result<[u8; COLUMNS], WrongLength>) -> [u8; COLUMNS]
+    ensures { result ≡ text_bytes read }
+{
+    read.unwrap_or([0; COLUMNS])
+}

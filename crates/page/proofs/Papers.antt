@@ -5,10 +5,11 @@ use mathlib.Core.Option.{Option, none, some}
 use Prim.Native.Nat.{ℕ}
 use lib.Dec.{eqb}
 use Rattle.std.specs.Prelude.{Result, Ok, Err, is_ok, ⊤}
+use Rattle.std.specs.Result.{result_unwrap_or}
 use Rattle.laws.specs.Paper.{Paper}
 use Rattle.laws.proofs.Inverse.{told_apart}
 use Rattle.page.specs.Lawful.{cells_paper}
-use Rattle.page.specs.Reading.{page_given, read_paper}
+use Rattle.page.specs.Reading.{page_given, read_paper, zero_page}
 use Rattle.page.specs.Writing.{write_paper}
 use Rattle.page.specs.declared.CellsError.{CellsError}
 use Rattle.page.specs.declared.CellsError.TheVariants as check
@@ -96,3 +97,9 @@ read_ok given answer e = same given ∙ ap is_ok (sym (read_is given answer e))
     same : {A : Type 0} (given : Result A ReadError) → is_ok given ≡ is_ok (answer_of given)
     same (Ok _) = refl
     same (Err error) = refl
+
+-- the page of an answer, or of zeros
+pub given_or : (answer : Result Page ReadError) → result_unwrap_or answer zero_page ≡ page_given answer
+unfolding page_given
+given_or (Ok page) = refl
+given_or (Err error) = refl

@@ -10,6 +10,8 @@ use Rattle.page.specs.contracts.lawful.check_cells as check-cells
 use Rattle.page.proofs.lawful.check_cells.Reads as check-cells-reads
 use Rattle.page.specs.contracts.lawful.header_fits as header_fits_law
 use Rattle.page.proofs.lawful.header_fits.Reads as header-fits-reads
+use Rattle.page.specs.contracts.reading.page_or_zeros as or-zeros
+use Rattle.page.proofs.reading.page_or_zeros.Reads as or-zeros-reads
 use Rattle.page.specs.contracts.reading.read_record as read-record
 use Rattle.page.proofs.reading.read_record.Reads as read-record-reads
 use Rattle.page.specs.contracts.writing.write_parts as write-parts
@@ -37,3 +39,6 @@ read_number_unique κs a r r' ws ws' p q = (p ∙ sym q, refl)
 
 pub write_number_unique : Unique write-number.ended write-number-reads.Post
 write_number_unique κs a r r' ws ws' p q = (p ∙ sym q, refl)
+
+pub page_or_zeros_unique : Unique or-zeros.ended or-zeros-reads.Post
+page_or_zeros_unique κs a r r' ws ws' p q = (p ∙ sym q, refl)

@@ -13,7 +13,7 @@ mod writing;
 use grid::{CELLS, ROWS};
 pub use lawful::{check_cells, header_fits};
 use packet::{Header, ZERO_HEADER};
-pub use reading::read_record;
+pub use reading::{page_or_zeros, read_record};
 pub use writing::{write_parts, write_record};
 
 // Bytes of a record: those before its cells, and those of its rows.
@@ -65,7 +65,7 @@ pub struct Page {
     pub cells: Cells,
 }
 
-// The zero of pages, which the promises have beside a refusal.
+// The zero of pages, which stands beside a refusal.
 pub const ZERO_PAGE: Page = Page {
     magazine: 0,
     header: ZERO_HEADER,

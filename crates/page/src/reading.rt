@@ -9,7 +9,7 @@ ghost use Rattle.page.specs.Records.{cells_from, head_length, head_widths, magaz
 
 use crate::{
     Cells, HEAD_LENGTH, NEVER, OLD_CODE, OLD_LENGTH, OLD_ROWS, Page, ROW_CODE, ROW_LENGTH,
-    ReadError, SPACE, lawful, parts,
+    ReadError, SPACE, ZERO_PAGE, lawful, parts,
 };
 use grid::{CELLS, COLUMNS, ROWS};
 use packet::Header;
@@ -128,4 +128,11 @@ pub fn read_record(record: &[u8]) -> Result<Page, ReadError>
         return Err(ReadError::BadDigit);
     }
     with_cells(head, record, count)
+}
+
+// The page that was read, or the zeros that stand beside a refusal.
+pub fn page_or_zeros(read: Result<Page, ReadError>) -> Page
+    ensures { result ≡ page_given read }
+{
+    read.unwrap_or(ZERO_PAGE)
 }

@@ -5,7 +5,7 @@ mod utf8;
 
 ghost use Rattle.std.specs.Prelude.{IfOk, ◌≡◌, length};
 ghost use Rattle.grid.specs.Grid.{rows};
-ghost use Rattle.printing.specs.Pages.{lines_text, page_paper, page_size, printed_page};
+ghost use Rattle.printing.specs.Pages.{bytes_beside, lines_text, page_paper, page_size, printed_page};
 ghost use Rattle.printing.specs.Printed.{symbol_byte};
 
 pub use display::NotAPage;
@@ -13,7 +13,7 @@ use display::{Cell, Symbol};
 use grid::{CELLS, COLUMNS, ROWS};
 use letters::MOST_OF_LETTERS;
 use texts::Text;
-pub use utf8::utf8_page;
+pub use utf8::{utf8_or_zeros, utf8_page};
 
 // A row's text with its line feed.
 pub const LINE: usize = COLUMNS + 1;
@@ -62,4 +62,11 @@ pub fn printed_page(codes: &[u8]) -> Result<[u8; PAGE], NotAPage>
         Ok(cells) => Ok(text_of(cells)),
         Err(refusal) => Err(*refusal),
     }
+}
+
+// The text that was made, or the zeros that stand beside a refusal.
+pub fn page_or_zeros(printed: Result<[u8; PAGE], NotAPage>) -> [u8; PAGE]
+    ensures { result ≡ bytes_beside printed }
+{
+    printed.unwrap_or([0; PAGE])
 }

@@ -55,3 +55,19 @@ pub fn utf8_page(codes: &[u8], control: u16) -> Result<Utf8Page, NotAPage>
         Err(refusal) => Err(*refusal),
     }
 }
+
+// The page that was made, or the zeros that stand beside a refusal.
+#[tactic(auto, unfolding(crate::specs::Letters::utf8_paper))]
+pub fn utf8_or_zeros(printed: Result<Utf8Page, NotAPage>) -> Utf8Page
+    ensures english_value { result.english ≡ (utf8_paper printed).english }
+    ensures bytes_value { result.text.bytes ≡ (utf8_paper printed).bytes }
+    ensures used_value { result.text.used ≡ (utf8_paper printed).used }
+{
+    printed.unwrap_or(Utf8Page {
+        english: false,
+        text: Text {
+            bytes: [0; UTF8_PAGE],
+            used: 0,
+        },
+    })
+}

@@ -23,6 +23,8 @@ use Rattle.receiver.specs.declared.Stepped.{Stepped}
 use Rattle.receiver.specs.declared.Taken.{Taken}
 use Rattle.receiver.specs.contracts.Receiver.new as new
 use Rattle.receiver.proofs.Receiver.new.Reads as new-reads
+use Rattle.receiver.specs.contracts.Receiver.or_zeros as or-zeros
+use Rattle.receiver.proofs.Receiver.or_zeros.Reads as or-zeros-reads
 use Rattle.receiver.specs.contracts.Refusal.number as number
 use Rattle.receiver.proofs.Refusal.number.Reads as number-reads
 use Rattle.receiver.specs.contracts.mending.mended_of as mended-of
@@ -106,6 +108,9 @@ stepped_is promised s t left other m n =
 
 pub new_unique : Unique new.ended new-reads.Post
 new_unique κs a r r' ws ws' p q = (made_is r r' (p.0 ∙ sym q.0) (p.1 ∙ sym q.1), refl)
+
+pub or_zeros_unique : Unique or-zeros.ended or-zeros-reads.Post
+or_zeros_unique κs a r r' ws ws' p q = (p ∙ sym q, refl)
 
 pub number_unique : Unique number.ended number-reads.Post
 number_unique κs a r r' ws ws' p q = (p ∙ sym q, refl)

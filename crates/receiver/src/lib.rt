@@ -24,7 +24,7 @@ use kinds::seen_of;
 use mending::mended_bytes;
 pub use mending::mended_of;
 use packet::{Header, ZERO_HEADER};
-use page::Cells;
+use page::{Cells, ZERO_CELLS};
 use recording::play;
 use selecting::in_range;
 
@@ -133,6 +133,20 @@ const NONE_MENDED: Mended = Mended {
     own: 0,
 };
 
+// Nothing is selected, and everything is zero.
+const ZERO_RECEIVER: Receiver = Receiver {
+    selection: Selection {
+        magazine: 0,
+        tens: 0,
+        units: 0,
+        when: When::Any,
+    },
+    open: false,
+    doubt: false,
+    header: ZERO_HEADER,
+    cells: ZERO_CELLS,
+};
+
 impl Receiver {
     pub const ROWS: usize = grid::ROWS;
 
@@ -157,6 +171,13 @@ impl Receiver {
             header: ZERO_HEADER,
             cells: BLANK,
         })
+    }
+
+    // The receiver that was made, or the zeros that stand beside 13.
+    pub fn or_zeros(made: Result<Receiver, OutOfRange>) -> Receiver
+        ensures { result ≡ made_in made }
+    {
+        made.unwrap_or(ZERO_RECEIVER)
     }
 }
 

@@ -1,7 +1,7 @@
 -- `announcing::page_in` meets its contract.
 use Rattle.std.proofs.Common.{◌∙◌, ap}
 use Rattle.page.specs.Reading.{page_read}
-use Rattle.announcing.proofs.Fresh.{given_or}
+use Rattle.page.proofs.Papers.{given_or}
 use Rattle.announcing.proofs.page_in.Goals as goal
 
 pub returns : goal.returns
