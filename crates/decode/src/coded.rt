@@ -1,6 +1,6 @@
 // Sorts b, n and a: a byte, a data-line's framing, a packet's address, header and text.
+use cases::HEADER_LENGTH;
 use coding::Decoded;
-use grid::COLUMNS;
 use packet::{Address, Header, HeaderError, LineError, WrongLength, ZERO_HEADER};
 
 // In the place of what is not read: a message, its wrong bit, a character, a header's messages.
@@ -57,8 +57,9 @@ fn address_bytes(packet: &[u8]) -> [u8; 4] {
 }
 
 fn put_header(rt: &(impl Print + Eprint), number: u8, header: Header) {
-    cases::put_byte(rt, number);
-    cases::put(rt, &cases::header_bytes(header));
+    let mut bytes = [number; 1 + HEADER_LENGTH];
+    bytes[1..].copy_from_slice(&cases::header_bytes(header));
+    cases::put(rt, &bytes);
 }
 
 // The number, or FF where a message is refused, and the header.
@@ -73,6 +74,5 @@ fn answer_header(rt: &(impl Print + Eprint), packet: &[u8]) {
 pub(crate) fn answer_packet(rt: &(impl Print + Eprint), packet: &[u8]) {
     cases::put(rt, &address_bytes(packet));
     answer_header(rt, packet);
-    let text = packet::text_of(packet).unwrap_or([0; COLUMNS]);
-    cases::put(rt, &text);
+    cases::put(rt, &packet::text_or_zeros(packet::text_of(packet)));
 }

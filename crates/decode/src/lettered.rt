@@ -1,6 +1,5 @@
 // Sorts i, c and o: the UTF-8 form of a number, the letter of a code, and a page as UTF-8 text.
 use crate::shown;
-use display::NotAPage;
 use grid::{COLUMNS, ROWS};
 use letters::{MOST_BYTES, MOST_OF_LETTERS};
 use std::array;
@@ -36,22 +35,17 @@ pub(crate) fn answer_letter(rt: &(impl Print + Eprint), input: &[u8]) {
     let letter = letters::letter_of(control, cases::byte_at(input, CODES));
     cases::put_byte(rt, letters::option_of(control));
     cases::put_byte(rt, letters::stands_in(control) as u8);
-    cases::put(rt, &letter.to_be_bytes());
+    put_double(rt, (letter / 0x1_0000) as usize);
+    put_double(rt, (letter % 0x1_0000) as usize);
     put_form(rt, letters::utf8_of(letter));
 }
 
 // Zeros stand for the text of a page that is refused.
 pub(crate) fn answer_text(rt: &(impl Print + Eprint), input: &[u8]) {
-    match printing::utf8_page(cases::rest(input, CODES), cases::double(input)) {
-        Ok(page) => {
-            cases::put(rt, &[0, page.english as u8]);
-            put_double(rt, page.text.used);
-            cases::put(rt, cases::start(&page.text.bytes, TEXT));
-        }
-        Err(NotAPage) => {
-            cases::put(rt, &[shown::REFUSED, 0]);
-            put_double(rt, 0);
-            cases::put(rt, &[0; TEXT]);
-        }
-    }
+    let printed = printing::utf8_page(cases::rest(input, CODES), cases::double(input));
+    cases::put_byte(rt, if printed.is_ok() { 0 } else { shown::REFUSED });
+    let page = printing::utf8_or_zeros(printed);
+    cases::put_byte(rt, page.english as u8);
+    put_double(rt, page.text.used);
+    cases::put(rt, cases::start(&page.text.bytes, TEXT));
 }

@@ -39,33 +39,17 @@ fn put_cell(rt: &(impl Print + Eprint), cell: Cell) {
     cases::put(rt, &bytes);
 }
 
-// Zeros stand for the cells of a page that is refused.
-pub(crate) fn answer_page(rt: &(impl Print + Eprint), codes: &[u8]) {
-    match display::page_of(codes) {
-        Ok(cells) => {
-            cases::put_byte(rt, 0);
-            for cell in cells {
-                put_cell(rt, cell);
-            }
-        }
-        Err(NotAPage) => {
-            cases::put_byte(rt, REFUSED);
-            put_no_cells(rt);
-        }
+fn put_cells(rt: &(impl Print + Eprint), number: u8, cells: [Cell; CELLS]) {
+    cases::put_byte(rt, number);
+    for cell in cells {
+        put_cell(rt, cell);
     }
 }
 
-fn put_no_cells(rt: &(impl Print + Eprint)) {
-    let zero = Cell {
-        symbol: Symbol::Letter(0x00),
-        foreground: 0,
-        background: 0,
-        flash: false,
-        conceal: false,
-        boxed: false,
-        height: Height::Normal,
-    };
-    for _ in 0..CELLS {
-        put_cell(rt, zero);
+// Zeros stand for the cells of a page that is refused.
+pub(crate) fn answer_page(rt: &(impl Print + Eprint), codes: &[u8]) {
+    match display::page_of(codes) {
+        Ok(cells) => put_cells(rt, 0, cells),
+        Err(NotAPage) => put_cells(rt, REFUSED, display::zero_cells()),
     }
 }

@@ -10,16 +10,19 @@ fn place_of(input: &[u8]) -> usize {
 }
 
 // The last four bytes of a number.
-fn put_place(rt: &(impl Print + Eprint), place: usize) {
-    let bytes = ((place % 0x1_0000_0000) as u32).to_be_bytes();
-    cases::put(rt, &bytes);
+fn place_bytes(place: usize) -> [u8; 4] {
+    ((place % 0x1_0000_0000) as u32).to_be_bytes()
 }
 
-// Three numbers of a byte, and two of four bytes.
+// Three numbers of a byte, and two of four bytes, in one write.
 fn put_five(rt: &(impl Print + Eprint), bytes: [u8; 3], place: usize, after: usize) {
-    cases::put(rt, &bytes);
-    put_place(rt, place);
-    put_place(rt, after);
+    let [number, first, second] = bytes;
+    let [at3, at2, at1, at0] = place_bytes(place);
+    let [to3, to2, to1, to0] = place_bytes(after);
+    let all = [
+        number, first, second, at3, at2, at1, at0, to3, to2, to1, to0,
+    ];
+    cases::put(rt, &all);
 }
 
 // The paper's number, and the place beside 15 and 16. The lister says the same numbers, each in a line of its own.

@@ -1,4 +1,5 @@
 // Receivers and pages, between bytes and the library's types.
+use cases::HEADER_LENGTH;
 use grid::CELLS;
 use packet::Header;
 use page::{Cells, Page};
@@ -18,6 +19,9 @@ const CHARACTERS: usize = 18;
 const MARKS: usize = CHARACTERS + CELLS;
 
 pub(crate) const RECEIVER_LENGTH: usize = MARKS + CELLS;
+
+// How many bytes the flags have.
+const FLAGS: usize = HEADER - OPEN;
 
 // The characters of all cells, or their marks.
 fn all_cells(bytes: &[u8]) -> [u8; CELLS] {
@@ -88,20 +92,18 @@ fn when_bytes(when: When) -> [u8; 5] {
     }
 }
 
-// The flags, and the header.
+// The flags, and the header, in one write.
 fn put_header(rt: &(impl Print + Eprint), first: bool, second: bool, header: Header) {
-    cases::put(rt, &[first as u8, second as u8]);
-    cases::put(rt, &cases::header_bytes(header));
+    let mut bytes = [0; FLAGS + HEADER_LENGTH];
+    bytes[0] = first as u8;
+    bytes[1] = second as u8;
+    bytes[FLAGS..].copy_from_slice(&cases::header_bytes(header));
+    cases::put(rt, &bytes);
 }
 
 fn put_cells(rt: &(impl Print + Eprint), cells: &Cells) {
     cases::put(rt, &cells.characters);
     cases::put(rt, &cells.marks);
-}
-
-// Zeros stand for the receiver of a selection that is out of range.
-pub(crate) fn put_no_receiver(rt: &(impl Print + Eprint)) {
-    cases::put(rt, &[0; RECEIVER_LENGTH]);
 }
 
 pub(crate) fn put_receiver(rt: &(impl Print + Eprint), receiver: &Receiver) {

@@ -1,6 +1,5 @@
 // Sorts w and d: a page written as a record, and a record read.
 use crate::forms;
-use page::ZERO_PAGE;
 
 pub(crate) fn answer_written(rt: &(impl Print + Eprint), input: &[u8], record: &mut [u8]) {
     match page::write_record(forms::page_of(input), record) {
@@ -11,14 +10,10 @@ pub(crate) fn answer_written(rt: &(impl Print + Eprint), input: &[u8], record: &
 }
 
 pub(crate) fn answer_read(rt: &(impl Print + Eprint), input: &[u8]) {
-    match page::read_record(input) {
-        Ok(page) => {
-            cases::put_byte(rt, 0);
-            forms::put_page(rt, &page);
-        }
-        Err(refusal) => {
-            cases::put_byte(rt, refusal.number());
-            forms::put_page(rt, &ZERO_PAGE);
-        }
+    let read = page::read_record(input);
+    match &read {
+        Ok(_) => cases::put_byte(rt, 0),
+        Err(refusal) => cases::put_byte(rt, refusal.number()),
     }
+    forms::put_page(rt, &page::page_or_zeros(read));
 }

@@ -1,6 +1,6 @@
 // Sorts s and r: a new receiver, and a run: a receiver that lines, packets and recordings are taken by, one after the other, through the entries of the library.
 use crate::forms;
-use receiver::{Mended, OutOfRange, Receiver, Refusal, Stepped, Taken};
+use receiver::{Mended, Receiver, Refusal, Stepped, Taken};
 
 // What stands before the bytes of a step: its entry, and its length in two bytes.
 const STEP: usize = 3;
@@ -12,16 +12,9 @@ const AT_END: u8 = 0xFF;
 const OUT_OF_RANGE: u8 = 13;
 
 pub(crate) fn answer_selection(rt: &(impl Print + Eprint), input: &[u8]) {
-    match Receiver::new(forms::selection_of(input)) {
-        Ok(receiver) => {
-            cases::put_byte(rt, 0);
-            forms::put_receiver(rt, &receiver);
-        }
-        Err(OutOfRange) => {
-            cases::put_byte(rt, OUT_OF_RANGE);
-            forms::put_no_receiver(rt);
-        }
-    }
+    let made = Receiver::new(forms::selection_of(input));
+    cases::put_byte(rt, if made.is_ok() { 0 } else { OUT_OF_RANGE });
+    forms::put_receiver(rt, &Receiver::or_zeros(made));
 }
 
 fn put_answer(rt: &(impl Print + Eprint), answer: Result<Taken, Refusal>) {
