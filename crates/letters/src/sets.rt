@@ -1,5 +1,6 @@
 // Which set a page's control bits choose, and the letter of a code in it.
 ghost use Rattle.std.specs.Prelude.{◌≡◌};
+ghost use Rattle.letters.specs.Private.{row_of};
 ghost use Rattle.letters.specs.Said.{stand_in_text};
 ghost use Rattle.letters.specs.Sets.{letter_in, letter_of, national_codes, option_of, position_among, set_for, stands_in};
 
@@ -63,12 +64,28 @@ fn set_at(control: u16) -> &'static [u32; POSITIONS]
         .unwrap_or(&LETTERS[ENGLISH])
 }
 
+// The row of the table for some control bits.
+#[tactic(auto, unfolding(crate::specs::Private::row_of))]
+fn row_of(control: u16) -> usize
+    ensures { result ≡ row_of control }
+{
+    if stands_in(control) {
+        ENGLISH
+    } else {
+        option_of(control) as usize
+    }
+}
+
 // The letter of a code under a page's control bits: a code outside the thirteen is its own letter.
-#[tactic(auto, unfolding(crate::specs::Sets::letter_of))]
 pub fn letter_of(control: u16, code: u8) -> u32
     ensures { result ≡ letter_of control code }
 {
-    letter_in(set_at(control), code)
+    let position = position_of(code);
+    if position == POSITIONS {
+        return code as u32;
+    }
+    let row = row_of(control);
+    LETTERS[row][position]
 }
 
 // The letter of a code in a set that is lent, for whoever asks for many: `set_of` looks into the table once.

@@ -27,6 +27,11 @@ module _ (room : ℕ) (text : List ℕ) where
       → after ≡ held room (text ++ more)
   held_more more put is h = put ∙ (ap (λ (t : Text room). added t more) is ∙ held_added more h)
 
+  -- what a text that is held reads as
+  pub text_of_law : text_of (held room text) ≡ text
+  unfolding held
+  text_of_law = padded-text room text
+
   -- what is promised of a text that is held
   module _ {kept : Text room} (is : kept ≡ held room text) where
     pub held_text : text_of kept ≡ text
